@@ -1,0 +1,24 @@
+-- The laws: what is proved of the rules, for the proofs of the claims and of the code. A reader of the rules need believe
+-- none of this. Of one definition each:
+pub mod BoolLaws
+pub mod KindLaws
+pub mod SearchLaws
+pub mod TreeLaws
+pub mod TableLaws
+pub mod RefusalLaws
+pub mod AssignmentLaws
+-- reachability: the marks are the least Cycle depth; the inputs are the reachable variables
+pub mod ReachLaws
+pub mod PathLaws
+pub mod InputLaws
+-- the canonical list: folding and the normal form keep answers; an accepted root is well made; its list reads back and is
+-- accepted
+pub mod FoldLaws
+pub mod NfLaws
+pub mod MadeLaws
+pub mod RootLaws
+pub mod CleanLaws
+pub mod ListingLaws
+pub mod CanonicalLaws
+-- the proofs of the demands
+pub mod DemandLaws

@@ -1,0 +1,44 @@
+-- A chain of tests that is done has every test done.
+use Prim.Native.Nat.{ℕ, suc, _%_, _^_, _≤_, _<_}
+use mathlib.Core.Path.{_≡_, refl, ap}
+use mathlib.Core.List.{List}
+use mathlib.Core.Bool.{Bool, true, false, _&&_}
+use native.Mathlib.Omega.{arith}
+use native.Mathlib.Nat.{div-eq-of-lt, lt-of-lt-of-le}
+use lib.Dec.{ltb, leb}
+use lib.Pow.{pow-mono}
+use borrow.Author.Tests.{eqb-true, ltb-true}
+use Rattle.meaning.specs.declared.Refusal.{Refusal}
+use Rattle.meaning.specs.Laws.BoolLaws.{and-right}
+use Rattle.meaning.specs.Rules.Limits.{mostInputs}
+use Rattle.meaning.specs.Rules.Words.{bitAt}
+use Rattle.meaning.specs.Rules.Refusals.{isDone, _then_, require}
+use Rattle.meaning.specs.Rules.Separation.{variablesBelow, inBounds}
+
+pub then-first : (r s : Refusal) → isDone (r then s) ≡ true → isDone r ≡ true
+then-first r s h = go (isDone r) refl
+  where
+    go : (b : Bool) → isDone r ≡ b → isDone r ≡ true
+    go true e = e
+    go false e = rw e at h
+
+pub then-rest : (r s : Refusal) → isDone (r then s) ≡ true → isDone s ≡ true
+then-rest r s h = rw (then-first r s h) at h
+
+pub require-done : (test : Bool) (number : ℕ) → isDone (require test (suc number)) ≡ true → test ≡ true
+require-done true number h = refl
+require-done false number h = absurd (omega (arith, eqb-true (suc number) 0 h))
+
+-- number 11 passed: every mark is below bit n
+pub marks-below : (ns : List ℕ) (n run : ℕ) → inBounds ns n run ≡ true → run < 2 ^ n
+unfolding inBounds
+marks-below ns n run h = ltb-true run (2 ^ n) (and-right (leb n mostInputs && variablesBelow ns n) (ltb run (2 ^ n)) h)
+
+pub bit-above : (run n v : ℕ) → run < 2 ^ n → n ≤ v → bitAt run v ≡ 0
+bit-above run n v h k = ap (λ (x : ℕ). x % 2) (div-eq-of-lt (lt-of-lt-of-le h (pow-mono k)))
+
+pub then-both : (r s : Refusal) → isDone r ≡ true → isDone s ≡ true → isDone (r then s) ≡ true
+then-both r s h k = rw h k
+
+pub done-require : (test : Bool) (number : ℕ) → test ≡ true → isDone (require test number) ≡ true
+done-require test number h = rw h
