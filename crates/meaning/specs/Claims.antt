@@ -1,1 +1,3 @@
 pub mod Terms
+pub mod Column
+pub mod Numbers

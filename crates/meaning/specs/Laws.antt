@@ -6,6 +6,9 @@ pub mod SearchLaws
 pub mod TreeLaws
 pub mod TableLaws
 pub mod RefusalLaws
+pub mod TestLaws
+pub mod NumberLaws
+pub mod ColumnLaws
 pub mod AssignmentLaws
 -- reachability: the marks are the least Cycle depth; the inputs are the reachable variables
 pub mod ReachLaws
@@ -20,5 +23,7 @@ pub mod RootLaws
 pub mod CleanLaws
 pub mod ListingLaws
 pub mod CanonicalLaws
--- the proofs of the demands
-pub mod DemandLaws
+-- the demands, tree by tree and call by call
+pub mod ComparisonLaws
+pub mod SeparationLaws
+pub mod KeptLaws

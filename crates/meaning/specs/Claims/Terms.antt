@@ -1,16 +1,21 @@
--- What the customer's demands 2 and 3 say, in words of the definitions. `Demands` claims it.
+-- The terms in which the claims are worded: what demands 2 and 3 say (Claims/Demands), and how the table of numbers is
+-- read (Claims/Numbers).
 use Prim.Native.Nat.{ℕ, _^_, _<_}
 use mathlib.Core.Path.{_≡_}
+use mathlib.Core.Logic.{_↔_}
+use mathlib.Core.List.{List, _∷_}
 use mathlib.Core.Bool.{true, false, cond, _&&_}
 use Rattle.meaning.specs.declared.Answer.{Answer}
 use Rattle.meaning.specs.declared.Check.the-variants.{NotEquiv, Inconclusive}
 use Rattle.meaning.specs.declared.Judgement.the-variants.{Crossing}
 use Rattle.meaning.specs.declared.Comparison.{Comparison}
 use Rattle.meaning.specs.declared.Separation.{Separation}
+use Rattle.meaning.specs.declared.Refusal.{Refusal}
 use Rattle.meaning.specs.Rules.Search.{lowest}
+use Rattle.meaning.specs.Rules.Refusals.{refuse}
 use Rattle.meaning.specs.Rules.Trees.{Tree}
 use Rattle.meaning.specs.Rules.Answers.{Assignment, answer}
-use Rattle.meaning.specs.Rules.Assignments.{inputs, drive, upto, Assigns}
+use Rattle.meaning.specs.Rules.Assignments.{inputs, drive, upto, isIn, Assigns}
 use Rattle.meaning.specs.Rules.Comparison.{isValue, assignments}
 use Rattle.meaning.specs.Rules.Separation.{isMarked, runCleared}
 
@@ -66,3 +71,27 @@ module _ (t : Tree) (n run : ℕ) where
     pub differs : asRun (s .index) ≡ asCleared (s .index) → ⊥
     pub lowest : (j : ℕ) → j < s .index → asRun j ≡ asCleared j
     pub answers : (s .run ≡ asRun (s .index)) × (s .cleared ≡ asCleared (s .index))
+
+-- ==== The table of numbers
+
+-- a call, a row of tests or one test answers with number n and node i exactly when P i
+pub record Exactly (r : Refusal) (n : ℕ) (P : ℕ → Type 0) : Type 0 where
+  pub when : (i : ℕ) → (r ≡ refuse n i) ↔ P i
+
+-- "the lowest faulty node, else 0": a number that names no node
+abbrev pub NoNode : Type 0 → ℕ → Type 0
+NoNode P i = (i ≡ 0) × P
+
+-- what holds exactly when a test, or a row of tests, refuses nothing
+pub record Passed (r : Refusal) (P : Type 0) : Type 0 where
+  pub when : (r .number ≡ 0) ↔ P
+
+-- the numbers that a test, or a row of tests, can say besides 0
+pub record Says (r : Refusal) (numbers : List ℕ) : Type 0 where
+  pub within : isIn (r .number) (0 ∷ numbers) ≡ true
+
+-- "the lowest faulty node" of n nodes: it is faulty, and those below it are fine
+pub record LowestFaulty (n : ℕ) (Fine Faulty : ℕ → Type 0) (i : ℕ) : Type 0 where
+  pub exists : i < n
+  pub here : Faulty i
+  pub below : (j : ℕ) → j < i → Fine j

@@ -1,7 +1,7 @@
 -- Every assignment of a list of variables has a number, and answers are the same exactly if the test says so.
 use Prim.Native.Nat.{ℕ, zero, suc, _+_, _*_, _/_, _%_, _^_, _<_, zero-le}
 use mathlib.Core.Path.{_≡_, refl, sym, ap, ap₂, _∙_, fun-ext}
-use mathlib.Core.List.{List, [], _∷_, _++_}
+use mathlib.Core.List.{List, _∷_, _++_, []}
 use mathlib.Core.Bool.{Bool, true, false, cond, _&&_, _||_, or-true, false-or, or-false, or-assoc, and-true, and-false}
 use native.Mathlib.Nat.{pow-suc}
 use native.Mathlib.Omega.{arith}
@@ -16,7 +16,6 @@ use Rattle.meaning.specs.declared.Answer.{Answer}
 use Rattle.meaning.specs.declared.Answer.the-variants.{Value, Failed}
 use Rattle.meaning.specs.Laws.BoolLaws.{true-false, and-left, and-right, and-both}
 use Rattle.meaning.specs.Rules.Answers.{Assignment, failureNumber}
-use Rattle.meaning.specs.Rules.Refusals.{some}
 use Rattle.meaning.specs.Rules.Assignments.{select, drive, upto, Assigns, isIn}
 use Rattle.meaning.specs.Rules.Comparison.{sameAnswer}
 
@@ -117,7 +116,7 @@ assigns-number vs α a = fun-ext (λ v. go v (isIn v vs) refl)
     go v false e = drive-other vs (number vs α) v e ∙ sym (a .off v e)
 
 -- ---- the variables below n
-in-append : (v : ℕ) (xs ys : List ℕ) → isIn v (xs ++ ys) ≡ (isIn v xs || isIn v ys)
+pub in-append : (v : ℕ) (xs ys : List ℕ) → isIn v (xs ++ ys) ≡ (isIn v xs || isIn v ys)
 in-append v [] ys = sym (false-or (isIn v ys))
 in-append v (x ∷ xs) ys = rw (in-append v xs ys) (sym (or-assoc (eqb v x) (isIn v xs) (isIn v ys)))
 

@@ -1,7 +1,7 @@
 -- Folding keeps a Lut's answer, whatever its operands, where these have bits for answers (document 01, "Canonical list").
 use Prim.Native.Nat.{ℕ, zero, suc, _+_, _-_, _*_, _^_, _<_}
 use mathlib.Core.Path.{_≡_, refl, sym, ap, _∙_}
-use mathlib.Core.List.{List, [], _∷_, _++_}
+use mathlib.Core.List.{List, _∷_, _++_, []}
 use mathlib.Core.Bool.{Bool, true, false}
 use native.Mathlib.Omega.{arith}
 use native.Mathlib.Decide.{decLt}

@@ -1,17 +1,16 @@
 -- An accepted list without DC, register or ARG below the root has a root that is Made (`NfLaws`).
 use Prim.Native.Nat.{ℕ, zero, suc, _+_, _^_, _≤_, _<_}
 use mathlib.Core.Path.{_≡_, refl, sym, ap, subst, _∙_}
-use mathlib.Core.Logic.{⊎-elim}
 use mathlib.Core.List.{_∷_}
-use mathlib.Core.Bool.{Bool, true, false, not, _&&_, _||_}
+use mathlib.Core.Bool.{true, false, not, _&&_, _||_}
 use native.Mathlib.Omega.{arith}
 use native.Mathlib.Decide.{decLt}
 use lib.ListN.{length, drop}
-use lib.Dec.{ltb, eqb}
-use borrow.Author.Tests.{lt-ltb, eqb-true, eq-eqb, leb-false, leb-true, ltb-true, ltb-false}
+use lib.Dec.{ltb}
+use borrow.Author.Tests.{lt-ltb, eqb-true, eq-eqb, leb-false, leb-true, ltb-false}
 use Rattle.meaning.specs.Rules.Limits.{mostOperands, widestBus}
 use Rattle.meaning.specs.Rules.Kinds.{kindOf, mayHave, isPlain}
-use Rattle.meaning.specs.Laws.BoolLaws.{true-false, and-left, and-right, not-is-false, or-left-false, or-right-false, or-cases}
+use Rattle.meaning.specs.Laws.BoolLaws.{true-false, and-left, and-right, not-is-false, or-left-false, or-right-false}
 use Rattle.meaning.specs.Rules.Trees.{Tree, Forest, node, none, _◂_, trees}
 use Rattle.meaning.specs.Rules.Refusals.{every}
 use Rattle.meaning.specs.Rules.Verification.{isProgram, lutWrong, wrong}

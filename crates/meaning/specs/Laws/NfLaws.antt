@@ -1,7 +1,7 @@
 -- The normal form answers as the tree does, where the tree has no DC, register or ARG and its variables are driven.
 use Prim.Native.Nat.{ℕ, zero, suc, _^_, _≤_, _<_}
 use mathlib.Core.Path.{_≡_, refl, sym, ap, ap₂, _∙_}
-use mathlib.Core.List.{List, [], _∷_, map}
+use mathlib.Core.List.{List, _∷_, map, []}
 use native.Mathlib.Omega.{arith}
 use lib.ListN.{length}
 use borrow.Author.Tests.{lt-ltb}

@@ -1,7 +1,7 @@
 -- Reachability: the root is reachable, and so is each child of a reachable node.
 use Prim.Native.Nat.{ℕ, zero, suc, _+_, _-_, _<_}
 use mathlib.Core.Path.{_≡_, refl, sym, ap, ap₂, subst, _∙_}
-use mathlib.Core.List.{List, [], _∷_}
+use mathlib.Core.List.{[], List, _∷_}
 use mathlib.Core.Bool.{Bool, true, false, cond}
 use native.Mathlib.Omega.{arith}
 use native.Mathlib.Nat.{zero-add, suc-add, add-zero}

@@ -1,13 +1,13 @@
 -- A chain of tests that is done has every test done.
 use Prim.Native.Nat.{ℕ, suc, _%_, _^_, _≤_, _<_}
-use mathlib.Core.Path.{_≡_, refl, ap}
+use mathlib.Core.Path.{_∙_, _≡_, refl, ap, sym}
 use mathlib.Core.List.{List}
-use mathlib.Core.Bool.{Bool, true, false, _&&_}
+use mathlib.Core.Bool.{Bool, true, false, _&&_, cond}
 use native.Mathlib.Omega.{arith}
 use native.Mathlib.Nat.{div-eq-of-lt, lt-of-lt-of-le}
 use lib.Dec.{ltb, leb}
 use lib.Pow.{pow-mono}
-use borrow.Author.Tests.{eqb-true, ltb-true}
+use borrow.Author.Tests.{eqb-true, ltb-true, eqb-false}
 use Rattle.meaning.specs.declared.Refusal.{Refusal}
 use Rattle.meaning.specs.Laws.BoolLaws.{and-right}
 use Rattle.meaning.specs.Rules.Limits.{mostInputs}
@@ -42,3 +42,12 @@ then-both r s h k = rw h k
 
 pub done-require : (test : Bool) (number : ℕ) → test ≡ true → isDone (require test number) ≡ true
 done-require test number h = rw h
+
+-- an outcome that carries the call's refusal, where that is done: no test refused
+pub is-done : {A : Type 0} (refusal : A → Refusal) (r : Refusal) (answered refused : A) → refusal refused ≡ r
+    → refusal (cond (isDone r) answered refused) .number ≡ 0 → isDone r ≡ true
+is-done refusal r answered refused e h = go (isDone r) refl
+  where
+    go : (b : Bool) → isDone r ≡ b → isDone r ≡ true
+    go true d = d
+    go false d = absurd (eqb-false (r .number) 0 d (ap (λ (x : Refusal). x .number) (sym e) ∙ (rw d at h)))

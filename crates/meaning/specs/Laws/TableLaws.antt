@@ -1,7 +1,7 @@
 -- Truth tables, "shown once over k": the row of a table is what it was made from, and dropping an operand keeps the rows left.
 use Prim.Native.Nat.{ℕ, zero, suc, _+_, _-_, _*_, _/_, _%_, _^_, _<_}
 use mathlib.Core.Path.{_≡_, refl, sym, ap, subst, _∙_}
-use mathlib.Core.List.{List, [], _∷_, _++_}
+use mathlib.Core.List.{List, _∷_, _++_, []}
 use lib.ListN.{length, getD, take, drop, length-drop}
 use lib.Seq.{split-at}
 use mathlib.Core.Bool.{true}
