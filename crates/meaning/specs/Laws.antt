@@ -9,6 +9,7 @@ pub mod RefusalLaws
 pub mod TestLaws
 pub mod NumberLaws
 pub mod ColumnLaws
+pub mod RangeLaws
 pub mod AssignmentLaws
 -- reachability: the marks are the least Cycle depth; the inputs are the reachable variables
 pub mod ReachLaws

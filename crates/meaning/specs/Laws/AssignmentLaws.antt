@@ -1,6 +1,6 @@
 -- Every assignment of a list of variables has a number, and answers are the same exactly if the test says so.
 use Prim.Native.Nat.{ℕ, zero, suc, _+_, _*_, _/_, _%_, _^_, _<_, zero-le}
-use mathlib.Core.Path.{_≡_, refl, sym, ap, ap₂, _∙_, fun-ext}
+use mathlib.Core.Path.{_≡_, refl, sym, ap, ap₂, _∙_, fun-ext, subst}
 use mathlib.Core.List.{List, _∷_, _++_, []}
 use mathlib.Core.Bool.{Bool, true, false, cond, _&&_, _||_, or-true, false-or, or-false, or-assoc, and-true, and-false}
 use native.Mathlib.Nat.{pow-suc}
@@ -48,6 +48,9 @@ sameAnswer-eq (Failed f) (Failed g) h = ap Failed (failure-eq f g (eqb-true (fai
 pub sameAnswer-refl : (x : Answer) → sameAnswer x x ≡ true
 sameAnswer-refl (Value w x) = and-both (eqb w w) (eqb x x) (eq-eqb w w refl) (eq-eqb x x refl)
 sameAnswer-refl (Failed f) = eq-eqb (failureNumber f) (failureNumber f) refl
+
+pub eq-sameAnswer : (x y : Answer) → x ≡ y → sameAnswer x y ≡ true
+eq-sameAnswer x y e = subst (λ (z : Answer). sameAnswer x z ≡ true) e (sameAnswer-refl x)
 
 -- ---- assignments and their numbers
 

@@ -163,9 +163,9 @@ module _ (ns ps : List ℕ) (n run work work₂ outNodes outPool work₃ : ℕ)
     unfolding separation
     canon-is = rw canon-accepted (ap (λ (t : Tree). separateTree t n run) canon-root)
 
-    pub demand-3-canonical :
+    pub kept-judgement :
         separation (canonicalNodes ns ps) (canonicalPool ns ps) n run work₃ ≡ separation ns ps n run work
-    demand-3-canonical =
+    kept-judgement =
         canon-is
         ∙ alike-separation (rootOf ns ps) (nf (rootOf ns ps)) n run (marks-below ns n run in-bounds) canon-alike
         ∙ sym (judged-tree ns ps n run work accepted)

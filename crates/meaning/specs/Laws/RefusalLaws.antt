@@ -1,5 +1,6 @@
 -- A chain of tests that is done has every test done.
 use Prim.Native.Nat.{ℕ, suc, _%_, _^_, _≤_, _<_}
+use mathlib.Core.Logic.{_⊎_, _≢_, inl, inr}
 use mathlib.Core.Path.{_∙_, _≡_, refl, ap, sym}
 use mathlib.Core.List.{List}
 use mathlib.Core.Bool.{Bool, true, false, _&&_, cond}
@@ -7,12 +8,14 @@ use native.Mathlib.Omega.{arith}
 use native.Mathlib.Nat.{div-eq-of-lt, lt-of-lt-of-le}
 use lib.Dec.{ltb, leb}
 use lib.Pow.{pow-mono}
-use borrow.Author.Tests.{eqb-true, ltb-true, eqb-false}
+use borrow.Author.Tests.{eqb-true, ltb-true, eqb-false, ne-eqb}
 use Rattle.meaning.specs.declared.Refusal.{Refusal}
 use Rattle.meaning.specs.Laws.BoolLaws.{and-right}
 use Rattle.meaning.specs.Rules.Limits.{mostInputs}
 use Rattle.meaning.specs.Rules.Words.{bitAt}
-use Rattle.meaning.specs.Rules.Refusals.{isDone, _then_, require}
+use lib.ListN.{length, replicate}
+use Rattle.meaning.specs.Rules.Lent.{outputAfter, cleared}
+use Rattle.meaning.specs.Rules.Refusals.{isDone, _then_, require, leavesWork, workAfter}
 use Rattle.meaning.specs.Rules.Separation.{variablesBelow, inBounds}
 
 pub then-first : (r s : Refusal) → isDone (r then s) ≡ true → isDone r ≡ true
@@ -51,3 +54,20 @@ is-done refusal r answered refused e h = go (isDone r) refl
     go : (b : Bool) → isDone r ≡ b → isDone r ≡ true
     go true d = d
     go false d = absurd (eqb-false (r .number) 0 d (ap (λ (x : Refusal). x .number) (sym e) ∙ (rw d at h)))
+
+-- ---- lent slices after a call
+pub refused-output : (r : Refusal) (words old : List ℕ) → r .number ≢ 0 → outputAfter (isDone r) words old ≡ old
+refused-output r words old h = rw (ne-eqb (r .number) 0 h)
+
+pub work-kept : (r : Refusal) (work : List ℕ) → (r .number ≡ 1) ⊎ (r .number ≡ 2) ⊎ (r .number ≡ 10) → workAfter r work ≡ work
+unfolding workAfter
+work-kept r work h = rw (leaves (r .number) h)
+  where
+    leaves : (n : ℕ) → (n ≡ 1) ⊎ (n ≡ 2) ⊎ (n ≡ 10) → leavesWork n ≡ true
+    leaves n (inl e) = rw e
+    leaves n (inr (inl e)) = rw e
+    leaves n (inr (inr e)) = rw e
+
+pub work-cleared : (r : Refusal) (work : List ℕ) → r .number ≢ 1 → r .number ≢ 2 → r .number ≢ 10 → workAfter r work ≡ replicate (length work) 0
+unfolding workAfter cleared
+work-cleared r work a b c = rw (ne-eqb (r .number) 1 a, ne-eqb (r .number) 2 b, ne-eqb (r .number) 10 c)
