@@ -7,3 +7,6 @@ pub mod Numbers
 pub mod Tables
 pub mod Reach
 pub mod Only
+pub mod Drawn
+pub mod Examples
+pub mod Cases

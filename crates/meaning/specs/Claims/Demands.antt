@@ -3,7 +3,7 @@ use Prim.Native.Nat.{ℕ, _≤_, _<_}
 use mathlib.Core.Path.{_≡_}
 use mathlib.Core.Logic.{_↔_, _⊎_, _≢_}
 use mathlib.Core.List.{List}
-use mathlib.Core.Bool.{true, false}
+use mathlib.Core.Bool.{true}
 use lib.ListN.{length, replicate}
 use Rattle.meaning.specs.declared.Check.the-variants.{Equiv}
 use Rattle.meaning.specs.declared.Judgement.the-variants.{Separate}
@@ -17,7 +17,7 @@ use Rattle.meaning.specs.Rules.Reach.{reachable}
 use Rattle.meaning.specs.Rules.Assignments.{inputs}
 use Rattle.meaning.specs.Rules.Pairs.{pairs}
 use Rattle.meaning.specs.Rules.Canonical.{canonicalNodes, canonicalPool}
-use Rattle.meaning.specs.Rules.Calls.{verifyRefusal, verify, evaluateRefusal, evaluation, evaluate, compareRefusal, compare, separateRefusal, separate, canonicalRefusal, canonical, canonicalise}
+use Rattle.meaning.specs.Rules.Calls.{evaluateRefusal, evaluation, evaluate, compare, separate, canonicalRefusal, canonical, canonicalise}
 use Rattle.meaning.specs.Claims.Terms.{EverywhereEqual, Decided, NoCrossing, Crosses}
 use Rattle.meaning.specs.Laws.RefusalLaws.{refused-output, work-kept, work-cleared}
 use Rattle.meaning.specs.Laws.ComparisonLaws.{equiv-exactly, otherwise-lowest, compared-trees, few-inputs}

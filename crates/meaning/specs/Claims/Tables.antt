@@ -1,19 +1,17 @@
 -- The truth-table routines and the verdict: number 13 and number 19 "exactly when" (document 01, "Truth-table routines",
 -- "Numbers a call answers with").
-use Prim.Native.Nat.{ℕ, suc, _+_, _-_, _^_, _≤_, _<_}
+use Prim.Native.Nat.{ℕ, _+_, _-_, _^_, _≤_, _<_}
 use mathlib.Core.Path.{_≡_, refl}
 use mathlib.Core.Logic.{_↔_, _⊎_}
 use mathlib.Core.List.{List}
-use mathlib.Core.Bool.{Bool, true, false, cond, _&&_}
-use native.Mathlib.Omega.{arith}
+use mathlib.Core.Bool.{Bool, false, _&&_}
 use lib.ListN.{length, getD}
 use lib.Dec.{ltb, leb}
 use Rattle.meaning.specs.declared.Check.{Check}
 use Rattle.meaning.specs.Rules.Limits.{mostOperands, widestBus}
-use Rattle.meaning.specs.Rules.Tables.{TableAnswer, inRange, says, lutInputs, areBits, tableFits, cofactor, ignores, withoutLsb, evalLut, evalLutBv, toBitvec, removeLsbVar, evalLutConstInput, cofactorsInMsb, swapPos}
-use Rattle.meaning.specs.Rules.Verdict.{nameOf, displayOf, display}
-use Rattle.meaning.specs.Laws.BoolLaws.{true-false}
-use Rattle.meaning.specs.Laws.TestLaws.{is-lt, is-from, is-le, is-above, one-fails}
+use Rattle.meaning.specs.Rules.Tables.{says, lutInputs, tableFits, cofactor, ignores, evalLut, evalLutBv, toBitvec, removeLsbVar, evalLutConstInput, cofactorsInMsb, swapPos}
+use Rattle.meaning.specs.Rules.Verdict.{nameOf, display}
+use Rattle.meaning.specs.Laws.TestLaws.{is-lt, is-from, is-above, one-fails}
 use Rattle.meaning.specs.Laws.RangeLaws.{in-range-13, in-range-or, bits-fail, display-19}
 
 -- "at most six input bytes of 0 or 1"

@@ -1,5 +1,5 @@
 -- The numbers test by test: what each test of a call says, exactly when, in the words of Claims/Column.
-use Prim.Native.Nat.{ℕ, suc, _-_, _%_, _^_, _≤_, _<_}
+use Prim.Native.Nat.{ℕ, _-_, _%_, _^_, _≤_, _<_}
 use mathlib.Core.Path.{_≡_, refl}
 use mathlib.Core.Logic.{_↔_, _⊎_}
 use mathlib.Core.List.{List, [], _∷_}
@@ -23,7 +23,7 @@ use Rattle.meaning.specs.Rules.Separation.{outside, variablesBelow, inBo
 use Rattle.meaning.specs.Rules.Comparison.{fewInputs}
 use Rattle.meaning.specs.Rules.Canonical.{gateFault, gates, canonicalNodes, canonicalPool}
 use Rattle.meaning.specs.Rules.Calls.{assigned, fitsPairs, fitsLists}
-use Rattle.meaning.specs.Claims.Terms.{NoNode, Exactly, Passed, Says, LowestFaulty}
+use Rattle.meaning.specs.Claims.Terms.{NoNode, Exactly, Passed, Says}
 use Rattle.meaning.specs.Claims.Column.{Misaligned, OverLimit, Sized, KindAbove, BreaksLayout, ChildNotBelow, WellLaid, Unverified, Verifies, Empty, Rooted, Misfit, Fits, WideGate, NoWideGate, All, Lowest, Sound, ManyInputs, OutOfBounds, InBounds, NoAssignment, IsAssignment, NoRoom, Room}
 use Rattle.meaning.specs.Laws.BoolLaws.{true-false, not-is-true, not-is-false, not-false}
 use Rattle.meaning.specs.Laws.NumberLaws.{then-says, require-says, lowest-says, require-exactly, require-passed, lowest-exactly, lowest-passed, here, skip, both-passed}

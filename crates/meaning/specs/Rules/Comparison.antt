@@ -1,6 +1,5 @@
 -- Comparison (document 01, "Comparison and separation").
 use Prim.Native.Nat.{ℕ, _^_}
-use mathlib.Core.List.{List}
 use mathlib.Core.Bool.{Bool, true, false, cond, not, _&&_, _||_}
 use lib.ListN.{length}
 use lib.Dec.{leb, eqb}
