@@ -4,6 +4,7 @@ pub mod BoolLaws
 pub mod KindLaws
 pub mod SearchLaws
 pub mod TreeLaws
+pub mod WordLaws
 pub mod TableLaws
 pub mod RefusalLaws
 pub mod TestLaws

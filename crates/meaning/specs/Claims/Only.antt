@@ -54,8 +54,7 @@ pub canonicalise-only : (ns ps work outNodes outPool : List ℕ) {c c′ : Canon
     → canonicalised c w a b ≡ canonicalise ns ps work outNodes outPool
     → canonicalised c′ w′ a′ b′ ≡ canonicalise ns ps work outNodes outPool → (c ≡ c′) × (w ≡ w′) × (a ≡ a′) × (b ≡ b′)
 canonicalise-only ns ps work outNodes outPool p q =
-    let e = p ∙ sym q in
-    (
+    let e = p ∙ sym q in (
       ap (λ (o : Canonicalised). o .answer) e,
       ap (λ (o : Canonicalised). o .work) e,
       ap (λ (o : Canonicalised). o .outNodes) e,

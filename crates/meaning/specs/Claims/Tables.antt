@@ -9,6 +9,7 @@ use lib.ListN.{length, getD}
 use lib.Dec.{ltb, leb}
 use Rattle.meaning.specs.declared.Check.{Check}
 use Rattle.meaning.specs.Rules.Limits.{mostOperands, widestBus}
+use Rattle.meaning.specs.Rules.Words.{wordFits}
 use Rattle.meaning.specs.Rules.Tables.{says, lutInputs, tableFits, cofactor, ignores, evalLut, evalLutBv, toBitvec, removeLsbVar, evalLutConstInput, cofactorsInMsb, swapPos}
 use Rattle.meaning.specs.Rules.Verdict.{nameOf, display}
 use Rattle.meaning.specs.Laws.TestLaws.{is-lt, is-from, is-above, one-fails}
@@ -40,7 +41,7 @@ eval-lut-bv-13 p inputs = in-range-13 (lutInputs inputs) _ refl (no-inputs input
 pub to-bitvec-13 : (p capacity : ℕ) → (toBitvec p capacity .number ≡ 13) ↔ ((widestBus < capacity) ⊎ (2 ^ capacity ≤ p))
 unfolding toBitvec
 to-bitvec-13 p capacity =
-    in-range-13 (leb capacity widestBus && ltb p (2 ^ capacity)) _ refl (one-fails (is-above capacity widestBus) (is-from p (2 ^ capacity)))
+    in-range-13 (wordFits p capacity) _ refl (one-fails (is-above capacity widestBus) (is-from p (2 ^ capacity)))
 
 -- "None for k below 2 whatever p is (this comes first)"
 pub remove-lsb-var-13 : (p k : ℕ) → (removeLsbVar p k .number ≡ 13) ↔ ((2 ≤ k) × NoTable p k)

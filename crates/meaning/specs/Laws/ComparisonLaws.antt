@@ -29,7 +29,6 @@ use Rattle.meaning.specs.Rules.Comparison.{isValue, sameAnswer, agree, d
 use Rattle.meaning.specs.Laws.AssignmentLaws.{sameAnswer-eq, sameAnswer-refl, drive-assigns, number, number-lt, assigns-number}
 use Rattle.meaning.specs.Claims.Terms.{OneValue, EverywhereEqual, first, second, Decided}
 
-
 agree-one : (x y : Answer) → agree x y ≡ true → OneValue x y
 agree-one x y h = (sameAnswer-eq x y (and-right (isValue x) (sameAnswer x y) h), and-left (isValue x) (sameAnswer x y) h)
 

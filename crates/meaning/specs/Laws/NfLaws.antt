@@ -12,8 +12,8 @@ use Rattle.meaning.specs.Rules.Trees.{Tree, Forest, node, none, _◂_, t
 use Rattle.meaning.specs.Rules.Answers.{Assignment, answer, answers, blank, driven, norOf, andOf, xorOf, notOf, muxOf, lutOf, busOf}
 use Rattle.meaning.specs.Rules.Words.{bitAt}
 use Rattle.meaning.specs.Rules.Tables.{rowFrom}
-use Rattle.meaning.specs.Laws.TableLaws.{bit-lt}
 use Rattle.meaning.specs.Rules.Canonical.{forestOf, folded, nf, nfAll}
+use Rattle.meaning.specs.Laws.WordLaws.{bit-lt}
 use Rattle.meaning.specs.Laws.FoldLaws.{Answering, nobody, with, answering-length, lut-answer, fold-answer}
 
 -- ---- trees that are bits and buses, over the variables D, made of constants, variables, gates, Luts, Cycles and Buses:

@@ -169,28 +169,28 @@ module _ {r s : Refusal} {n : ℕ} where
   pub here : {a : List ℕ} {P : ℕ → Type 0} → Exactly r (suc n) P → Says s a → isIn (suc n) (0 ∷ a) ≡ false → Exactly (r then s) (suc n) P
   here {P = P} e q other = record {
     when = λ i. by-first r s (λ x. (x ≡ refuse (suc n) i) ↔ P i)
-    (λ z. (λ h. absurd (never q (suc n) other (ap numberOf h)), λ p. absurd (omega (arith, z, ap numberOf (e .when i .1 p)))))
-    (λ z. e .when i);
+        (λ z. (λ h. absurd (never q (suc n) other (ap numberOf h)), λ p. absurd (omega (arith, z, ap numberOf (e .when i .1 p)))))
+        (λ z. e .when i);
   }
 
   pub skip : {a : List ℕ} {P : ℕ → Type 0} {Q : Type 0} → Says r a → isIn (suc n) (0 ∷ a) ≡ false → Passed r Q → Exactly s (suc n) P
       → Exactly (r then s) (suc n) (λ i. Q × P i)
   skip {P = P} {Q = Q} p other pass e = record {
     when = λ i. by-first r s (λ x. (x ≡ refuse (suc n) i) ↔ (Q × P i))
-    (λ z. (λ h. (pass .when .0 z, e .when i .0 h), λ f. e .when i .1 (f .1)))
-    (λ z. (λ h. absurd (never p (suc n) other (ap numberOf h)), λ f. absurd (z (pass .when .1 (f .0)))));
+        (λ z. (λ h. (pass .when .0 z, e .when i .0 h), λ f. e .when i .1 (f .1)))
+        (λ z. (λ h. absurd (never p (suc n) other (ap numberOf h)), λ f. absurd (z (pass .when .1 (f .0)))));
   }
 
   pub either : {P P′ : ℕ → Type 0} {Q : Type 0} → Exactly r (suc n) P → Passed r Q → Exactly s (suc n) P′
       → Exactly (r then s) (suc n) (λ i. P i ⊎ (Q × P′ i))
   either {P = P} {P′ = P′} {Q = Q} e pass e′ = record {
     when = λ i. by-first r s (λ x. (x ≡ refuse (suc n) i) ↔ (P i ⊎ (Q × P′ i)))
-    (λ z. (λ h. inr (pass .when .0 z, e′ .when i .0 h), ⊎-elim (λ p. absurd (omega (arith, z, ap numberOf (e .when i .1 p)))) (λ f. e′ .when i .1 (f .1))))
-    (λ z. (λ h. inl (e .when i .0 h), ⊎-elim (λ p. e .when i .1 p) (λ f. absurd (z (pass .when .1 (f .0))))));
+        (λ z. (λ h. inr (pass .when .0 z, e′ .when i .0 h), ⊎-elim (λ p. absurd (omega (arith, z, ap numberOf (e .when i .1 p)))) (λ f. e′ .when i .1 (f .1))))
+        (λ z. (λ h. inl (e .when i .0 h), ⊎-elim (λ p. e .when i .1 p) (λ f. absurd (z (pass .when .1 (f .0))))));
   }
 
 pub both-passed : {r s : Refusal} {P Q : Type 0} → Passed r P → Passed s Q → Passed (r then s) (P × Q)
 both-passed {r} {s} {P} {Q} p q = record {
   when = by-first r s (λ x. (x .number ≡ 0) ↔ (P × Q))
-  (λ z. (λ h. (p .when .0 z, q .when .0 h), λ f. q .when .1 (f .1))) (λ z. (λ h. absurd (z h), λ f. absurd (z (p .when .1 (f .0)))));
+      (λ z. (λ h. (p .when .0 z, q .when .0 h), λ f. q .when .1 (f .1))) (λ z. (λ h. absurd (z h), λ f. absurd (z (p .when .1 (f .0)))));
 }

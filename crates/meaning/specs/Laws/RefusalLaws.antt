@@ -1,18 +1,15 @@
 -- A chain of tests that is done has every test done.
-use Prim.Native.Nat.{ℕ, suc, _%_, _^_, _≤_, _<_}
+use Prim.Native.Nat.{ℕ, suc, _^_, _<_}
 use mathlib.Core.Logic.{_⊎_, _≢_, inl, inr}
 use mathlib.Core.Path.{_∙_, _≡_, refl, ap, sym}
 use mathlib.Core.List.{List}
 use mathlib.Core.Bool.{Bool, true, false, _&&_, cond}
 use native.Mathlib.Omega.{arith}
-use native.Mathlib.Nat.{div-eq-of-lt, lt-of-lt-of-le}
 use lib.Dec.{ltb, leb}
-use lib.Pow.{pow-mono}
 use borrow.Author.Tests.{eqb-true, ltb-true, eqb-false, ne-eqb}
 use Rattle.meaning.specs.declared.Refusal.{Refusal}
 use Rattle.meaning.specs.Laws.BoolLaws.{and-right}
 use Rattle.meaning.specs.Rules.Limits.{mostInputs}
-use Rattle.meaning.specs.Rules.Words.{bitAt}
 use lib.ListN.{length, replicate}
 use Rattle.meaning.specs.Rules.Lent.{outputAfter, cleared}
 use Rattle.meaning.specs.Rules.Refusals.{isDone, _then_, require, leavesWork, workAfter}
@@ -36,9 +33,6 @@ require-done false number h = absurd (omega (arith, eqb-true (suc number) 0 h))
 pub marks-below : (ns : List ℕ) (n run : ℕ) → inBounds ns n run ≡ true → run < 2 ^ n
 unfolding inBounds
 marks-below ns n run h = ltb-true run (2 ^ n) (and-right (leb n mostInputs && variablesBelow ns n) (ltb run (2 ^ n)) h)
-
-pub bit-above : (run n v : ℕ) → run < 2 ^ n → n ≤ v → bitAt run v ≡ 0
-bit-above run n v h k = ap (λ (x : ℕ). x % 2) (div-eq-of-lt (lt-of-lt-of-le h (pow-mono k)))
 
 pub then-both : (r s : Refusal) → isDone r ≡ true → isDone s ≡ true → isDone (r then s) ≡ true
 then-both r s h k = rw h k

@@ -11,6 +11,7 @@ use borrow.Author.Tests.{eq-eqb, ne-eqb, ltb-false, le-ltb}
 use Rattle.meaning.specs.declared.Answer.{Answer}
 use Rattle.meaning.specs.declared.Judgement.the-variants.{Separate}
 use Rattle.meaning.specs.declared.Separation.{Separation}
+use Rattle.meaning.specs.Laws.WordLaws.{bit-above}
 use Rattle.meaning.specs.Laws.BoolLaws.{true-false, not-is-true, not-is-false}
 use Rattle.meaning.specs.Laws.SearchLaws.{IsLowest, lowest-is}
 use Rattle.meaning.specs.Rules.Search.{lowest}
@@ -22,7 +23,7 @@ use Rattle.meaning.specs.Rules.Layout.{sizes, workFor, room}
 use Rattle.meaning.specs.Rules.Evaluable.{sound}
 use Rattle.meaning.specs.Rules.Separation.{inBounds, isMarked, runCleared, crosses, crossingIndex, separated, crossingAt, separateTree, separationRefused}
 use Rattle.meaning.specs.Rules.Calls.{separateRefusal, separation}
-use Rattle.meaning.specs.Laws.RefusalLaws.{then-rest, require-done, marks-below, bit-above, is-done}
+use Rattle.meaning.specs.Laws.RefusalLaws.{then-rest, require-done, marks-below, is-done}
 use Rattle.meaning.specs.Rules.Comparison.{sameAnswer}
 use Rattle.meaning.specs.Laws.AssignmentLaws.{sameAnswer-eq, sameAnswer-refl, drive-assigns, number, number-lt, assigns-number, in-upto, upto-length}
 use Rattle.meaning.specs.Claims.Terms.{AgreeUnmarked, NoCrossing, asRun, asCleared, Crosses}
@@ -149,4 +150,3 @@ module _ (t u : Tree) (n run : ℕ) (below : run < 2 ^ n) (alike : (α : Assignm
   pub alike-separation : separateTree u n run ≡ separateTree t n run
   unfolding separateTree
   alike-separation = rw (alike-index, alike-run (crossingIndex t n run), alike-cleared (crossingIndex t n run)) refl
-

@@ -1,41 +1,23 @@
 -- Truth tables, "shown once over k": the row of a table is what it was made from, and dropping an operand keeps the rows left.
-use Prim.Native.Nat.{ℕ, zero, suc, _+_, _-_, _*_, _/_, _%_, _^_, _<_}
-use mathlib.Core.Path.{_≡_, refl, sym, ap, subst, _∙_}
+use Prim.Native.Nat.{ℕ, zero, suc, _+_, _-_, _*_, _%_, _^_, _<_}
+use mathlib.Core.Path.{_≡_, refl, sym, ap, _∙_}
 use mathlib.Core.List.{List, _∷_, _++_, []}
 use lib.ListN.{length, getD, take, drop, length-drop}
 use lib.Seq.{split-at}
 use mathlib.Core.Bool.{true}
-use native.Mathlib.Nat.{add-mul, mul-assoc, pow-suc, mod-lt, add-comm, mul-comm, mod-eq-of-lt}
+use native.Mathlib.Nat.{add-mul, mul-assoc, pow-suc, add-comm, mul-comm, mod-eq-of-lt}
 use native.Mathlib.Omega.{arith}
 use native.Mathlib.Decide.{decLt}
-use lib.Pow.{high, low, shr-shr, field, mod-mod-pow}
+use lib.Pow.{high, low}
 use lib.Arith.{digits-lt}
 use lib.Dec.{eqb}
 use borrow.Author.Tests.{eqb-true}
+use Rattle.meaning.specs.Laws.WordLaws.{bit-low, bit-lt}
 use Rattle.meaning.specs.Laws.BoolLaws.{not-is-false}
 use Rattle.meaning.specs.Rules.Words.{bitAt}
 use Rattle.meaning.specs.Rules.Search.{lowest}
 use Rattle.meaning.specs.Laws.SearchLaws.{lowest-is}
 use Rattle.meaning.specs.Rules.Tables.{table, insertBit, cofactor, pairDiffers, ignores, rowFrom}
-
-pub bit-lt : (p i : ℕ) → bitAt p i < 2
-bit-lt p i = mod-lt (p / 2 ^ i) (omega arith)
-
--- a bit by its window: bit i of x is bit i of what x leaves modulo a higher power
-bit-mod : (x i n : ℕ) → i < n → bitAt x i ≡ bitAt (x % 2 ^ n) i
-bit-mod x i n h =
-    sym (field x 1 i) ∙ ap (λ (y : ℕ). y / 2 ^ i) window ∙ field (x % 2 ^ n) 1 i
-  where
-    window : x % 2 ^ (1 + i) ≡ x % 2 ^ n % 2 ^ (1 + i)
-    window =
-        subst (λ (m : ℕ). x % 2 ^ (1 + i) ≡ x % 2 ^ m % 2 ^ (1 + i)) (omega arith) (sym (mod-mod-pow x (n - (1 + i)) (1 + i)))
-
-pub bit-low : (hi lo n i : ℕ) → lo < 2 ^ n → i < n → bitAt (hi * 2 ^ n + lo) i ≡ bitAt lo i
-bit-low hi lo n i h k = bit-mod (hi * 2 ^ n + lo) i n k ∙ ap (λ (x : ℕ). bitAt x i) (low hi n h)
-
-pub bit-high : (hi lo n i : ℕ) → lo < 2 ^ n → bitAt (hi * 2 ^ n + lo) (n + i) ≡ bitAt hi i
-bit-high hi lo n i h =
-    ap (λ (x : ℕ). x % 2) (sym (shr-shr (hi * 2 ^ n + lo) n i)) ∙ ap (λ (x : ℕ). x / 2 ^ i % 2) (high hi n h)
 
 -- a table of bits over n rows is below 2 ^ n
 pub table-lt : (f : ℕ → ℕ) → ((i : ℕ) → f i < 2) → (n : ℕ) → table f n < 2 ^ n

@@ -17,10 +17,10 @@ use Rattle.meaning.specs.Rules.Numbers.{unknownKind, badLayout, badChild
 use Rattle.meaning.specs.Rules.Trees.{Tree, same}
 use Rattle.meaning.specs.Rules.Refusals.{every}
 use Rattle.meaning.specs.Rules.Assignments.{isIn}
+use Rattle.meaning.specs.Laws.WordLaws.{bit-above}
 use Rattle.meaning.specs.Laws.BoolLaws.{true-false, not-true, and-left, and-right, and-both, or-cases, or-left-false, or-right-false}
 use Rattle.meaning.specs.Laws.TreeLaws.{same-eq, eq-same}
 use Rattle.meaning.specs.Laws.SearchLaws.{lowest-is, lowest-only}
-use Rattle.meaning.specs.Laws.RefusalLaws.{bit-above}
 
 -- ---- numbers
 pub is-eq : (a b : ℕ) → (eqb a b ≡ true) ↔ (a ≡ b)

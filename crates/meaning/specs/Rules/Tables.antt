@@ -14,9 +14,9 @@ use Rattle.meaning.specs.declared.TableProgram.{TableProgram}
 use Rattle.meaning.specs.declared.TableProgram.the-variants as tableProgram
 use Rattle.meaning.specs.declared.Cofactors.{Cofactors}
 use Rattle.meaning.specs.declared.Cofactors.the-variants as cofactors
-use Rattle.meaning.specs.Rules.Limits.{mostOperands, widestBus}
+use Rattle.meaning.specs.Rules.Limits.{mostOperands}
 use Rattle.meaning.specs.Rules.Numbers.{isDoneNumber, badTable}
-use Rattle.meaning.specs.Rules.Words.{bitAt}
+use Rattle.meaning.specs.Rules.Words.{bitAt, wordFits}
 use Rattle.meaning.specs.Rules.Search.{lowest}
 
 -- ---- what a routine says: the number, and the values of its answer
@@ -122,7 +122,7 @@ evalLutBv p inputs = inRange (lutInputs inputs) (says (bitAt p (rowFrom 0 (rever
 
 -- "capacity at most 64, p must be below 2^capacity (capacity 0 takes only 0, and gives width 0 and value 0)"
 unfoldable pub toBitvec : ℕ → ℕ → TableAnswer
-toBitvec p capacity = inRange (leb capacity widestBus && ltb p (2 ^ capacity)) (says capacity p)
+toBitvec p capacity = inRange (wordFits p capacity) (says capacity p)
 
 -- the program over one operand less, where no row pair depends on the least significant
 abbrev pub withoutLsb : ℕ → ℕ → TableAnswer

@@ -61,11 +61,11 @@ canonicals =
     ∷ (canonicalising (cycle (inv (arg 0))) is listing (cycle (lut 1 (arg 0 ∷ []))))
     -- the list: children first, left to right, each subtree once, pool without gaps; a Program's two halves
     ∷ (canonicalising (and (inv v1) v0) is list
-      (nodeOf 1 8 0 ++ nodeOf 1 1 0 ++ nodeOf 3 1 0 ++ nodeOf 9 0 2 ++ nodeOf 3 0 0 ++ nodeOf 9 2 3)
-      (1 ∷ 2 ∷ 0 ∷ 3 ∷ 4 ∷ []))
+    (nodeOf 1 8 0 ++ nodeOf 1 1 0 ++ nodeOf 3 1 0 ++ nodeOf 9 0 2 ++ nodeOf 3 0 0 ++ nodeOf 9 2 3)
+    (1 ∷ 2 ∷ 0 ∷ 3 ∷ 4 ∷ []))
     ∷ (canonicalising (node 11 0 (inv v0 ◂ bus [] ◂ v0 ◂ v0 ◂ none)) is list
-      (nodeOf 1 1 0 ++ nodeOf 3 0 0 ++ nodeOf 9 0 2 ++ nodeOf 10 2 0 ++ nodeOf 11 2 4)
-      (0 ∷ 1 ∷ 2 ∷ 3 ∷ 1 ∷ 1 ∷ []))
+    (nodeOf 1 1 0 ++ nodeOf 3 0 0 ++ nodeOf 9 0 2 ++ nodeOf 10 2 0 ++ nodeOf 11 2 4)
+    (0 ∷ 1 ∷ 2 ∷ 3 ∷ 1 ∷ 1 ∷ []))
     ∷ (listing (lut (2 ^ 32 * 7 + 5) (v0 ∷ [])) is list (nodeOf 1 5 7 ++ nodeOf 3 0 0 ++ nodeOf 9 0 2) (0 ∷ 1 ∷ []))
     -- 14: a wide gate, each kind of it, asked before folding; an unreachable one doesn't count
     ∷ (canonicalising (inv (bus (v0 ∷ []))) is refused 14 2)

@@ -105,39 +105,39 @@ outcomes =
     ∷ (verifyAll (nodeOf 3 0 0) [] (1 ∷ []) leaves outcome (10 ∷ 0 ∷ []) untouched [])
     -- the root's answer and the pairs: 5 and 0 for an unreachable node and for a Program; past the answer unchanged
     ∷ (evaluateAll some-nodes (1 ∷ 2 ∷ []) (1 ∷ []) (workOf 4 2) (replicate 9 7) leaves
-      outcome (0 ∷ 0 ∷ 0 ∷ 1 ∷ 1 ∷ []) zeros ((5 ∷ 0 ∷ 5 ∷ 0 ∷ 0 ∷ 1 ∷ 0 ∷ 1 ∷ 7 ∷ []) ∷ []))
+    outcome (0 ∷ 0 ∷ 0 ∷ 1 ∷ 1 ∷ []) zeros ((5 ∷ 0 ∷ 5 ∷ 0 ∷ 0 ∷ 1 ∷ 0 ∷ 1 ∷ 7 ∷ []) ∷ []))
     ∷ (evaluateAll some-nodes (1 ∷ 2 ∷ []) [] (workOf 4 2) (replicate 8 7) leaves
-      outcome (0 ∷ 0 ∷ 1 ∷ 0 ∷ 0 ∷ []) zeros ((5 ∷ 0 ∷ 5 ∷ 0 ∷ 1 ∷ 0 ∷ 1 ∷ 0 ∷ []) ∷ []))
+    outcome (0 ∷ 0 ∷ 1 ∷ 0 ∷ 0 ∷ []) zeros ((5 ∷ 0 ∷ 5 ∷ 0 ∷ 1 ∷ 0 ∷ 1 ∷ 0 ∷ []) ∷ []))
     -- refusals leave the output untouched; 19 comes last
     ∷ (evaluateAll some-nodes (1 ∷ 2 ∷ []) (1 ∷ []) (workOf 4 2) (replicate 7 7) leaves
-      outcome (19 ∷ 0 ∷ 0 ∷ 0 ∷ 0 ∷ []) zeros (replicate 7 7 ∷ []))
+    outcome (19 ∷ 0 ∷ 0 ∷ 0 ∷ 0 ∷ []) zeros (replicate 7 7 ∷ []))
     ∷ (evaluateAll some-nodes (1 ∷ 2 ∷ []) (3 ∷ []) (workOf 4 2) [] leaves
-      outcome (12 ∷ 0 ∷ 0 ∷ 0 ∷ 0 ∷ []) zeros ([] ∷ []))
+    outcome (12 ∷ 0 ∷ 0 ∷ 0 ∷ 0 ∷ []) zeros ([] ∷ []))
     ∷ (evaluateAll some-nodes (1 ∷ 3 ∷ []) (1 ∷ []) (workOf 4 2) (replicate 9 7) leaves
-      outcome (5 ∷ 3 ∷ 0 ∷ 0 ∷ 0 ∷ []) zeros (replicate 9 7 ∷ []))
+    outcome (5 ∷ 3 ∷ 0 ∷ 0 ∷ 0 ∷ []) zeros (replicate 9 7 ∷ []))
     ∷ (evaluateAll some-nodes (1 ∷ 2 ∷ []) (1 ∷ []) (1 ∷ []) (replicate 9 7) leaves
-      outcome (10 ∷ 0 ∷ 0 ∷ 0 ∷ 0 ∷ []) untouched (replicate 9 7 ∷ []))
+    outcome (10 ∷ 0 ∷ 0 ∷ 0 ∷ 0 ∷ []) untouched (replicate 9 7 ∷ []))
     -- verdict, index and both answers; for Equiv, and in a refusal, the rest is zero
     ∷ (compareAll (and v0 v1) v0 (workOf 4 2) leaves
-      outcome (0 ∷ 0 ∷ 1 ∷ 1 ∷ 0 ∷ 1 ∷ 0 ∷ 0 ∷ 1 ∷ 1 ∷ []) zeros [])
+    outcome (0 ∷ 0 ∷ 1 ∷ 1 ∷ 0 ∷ 1 ∷ 0 ∷ 0 ∷ 1 ∷ 1 ∷ []) zeros [])
     ∷ (compareAll (mux v0 dc true) true (workOf 5 3) leaves
-      outcome (0 ∷ 0 ∷ 2 ∷ 1 ∷ 2 ∷ 0 ∷ 0 ∷ 0 ∷ 1 ∷ 1 ∷ []) zeros [])
+    outcome (0 ∷ 0 ∷ 2 ∷ 1 ∷ 2 ∷ 0 ∷ 0 ∷ 0 ∷ 1 ∷ 1 ∷ []) zeros [])
     ∷ (compareAll v0 v0 (workOf 2 0) leaves outcome (0 ∷ 0 ∷ 0 ∷ 0 ∷ 0 ∷ 0 ∷ 0 ∷ 0 ∷ 0 ∷ 0 ∷ []) zeros [])
     ∷ (compareAll v0 (program 0) (workOf 2 0) leaves outcome (8 ∷ 0 ∷ 2 ∷ 0 ∷ 0 ∷ 0 ∷ 0 ∷ 0 ∷ 0 ∷ 0 ∷ []) zeros [])
     ∷ (compareAll v0 v0 (1 ∷ []) leaves outcome (10 ∷ 0 ∷ 2 ∷ 0 ∷ 0 ∷ 0 ∷ 0 ∷ 0 ∷ 0 ∷ 0 ∷ []) untouched [])
     -- judgement, index and both answers; for Separate, and in a refusal, the rest is zero
     ∷ (separateAll (mux v1 dc v0) 2 2 (workOf 4 3) leaves
-      outcome (0 ∷ 0 ∷ 1 ∷ 2 ∷ 2 ∷ 0 ∷ 0 ∷ 0 ∷ 1 ∷ 0 ∷ []) zeros [])
+    outcome (0 ∷ 0 ∷ 1 ∷ 2 ∷ 2 ∷ 0 ∷ 0 ∷ 0 ∷ 1 ∷ 0 ∷ []) zeros [])
     ∷ (separateAll v0 1 0 (workOf 1 0) leaves outcome (0 ∷ 0 ∷ 0 ∷ 0 ∷ 0 ∷ 0 ∷ 0 ∷ 0 ∷ 0 ∷ 0 ∷ []) zeros [])
     ∷ (separateAll v0 0 0 (workOf 1 0) leaves outcome (11 ∷ 0 ∷ 1 ∷ 0 ∷ 0 ∷ 0 ∷ 0 ∷ 0 ∷ 0 ∷ 0 ∷ []) zeros [])
     ∷ (separateAll v0 1 0 (1 ∷ []) leaves outcome (10 ∷ 0 ∷ 1 ∷ 0 ∷ 0 ∷ 0 ∷ 0 ∷ 0 ∷ 0 ∷ 0 ∷ []) untouched [])
     -- the words that the answer takes, and the two outputs
     ∷ (canonicaliseAll (inv v0) (workOf 2 1) (replicate 10 7) (replicate 3 7) leaves
-      outcome (0 ∷ 0 ∷ 9 ∷ 2 ∷ []) zeros ((nodeOf 1 1 0 ++ nodeOf 3 0 0 ++ nodeOf 9 0 2 ++ (7 ∷ [])) ∷ (0 ∷ 1 ∷ 7 ∷ []) ∷ []))
+    outcome (0 ∷ 0 ∷ 9 ∷ 2 ∷ []) zeros ((nodeOf 1 1 0 ++ nodeOf 3 0 0 ++ nodeOf 9 0 2 ++ (7 ∷ [])) ∷ (0 ∷ 1 ∷ 7 ∷ []) ∷ []))
     ∷ (canonicaliseAll (inv v0) (workOf 2 1) (replicate 8 7) (replicate 3 7) leaves
-      outcome (19 ∷ 0 ∷ 0 ∷ 0 ∷ []) zeros (replicate 8 7 ∷ replicate 3 7 ∷ []))
+    outcome (19 ∷ 0 ∷ 0 ∷ 0 ∷ []) zeros (replicate 8 7 ∷ replicate 3 7 ∷ []))
     ∷ (canonicaliseAll (inv v0) (1 ∷ []) (replicate 9 7) (replicate 2 7) leaves
-      outcome (10 ∷ 0 ∷ 0 ∷ 0 ∷ []) untouched (replicate 9 7 ∷ replicate 2 7 ∷ []))
+    outcome (10 ∷ 0 ∷ 0 ∷ 0 ∷ []) untouched (replicate 9 7 ∷ replicate 2 7 ∷ []))
     ∷ []
 
 pub outcome-cases : map (λ (w : Whole). w .computed) outcomes ≡ map (λ (w : Whole). w .document) outcomes

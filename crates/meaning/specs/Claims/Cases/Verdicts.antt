@@ -47,7 +47,7 @@ verdicts =
     ∷ (writing Equiv (replicate 5 1) is words (0 ∷ 5 ∷ 69 ∷ 113 ∷ 117 ∷ 105 ∷ 118 ∷ []))
     ∷ (writing NotEquiv (replicate 9 1) is words (0 ∷ 8 ∷ 78 ∷ 111 ∷ 116 ∷ 69 ∷ 113 ∷ 117 ∷ 105 ∷ 118 ∷ 1 ∷ []))
     ∷ (writing Inconclusive (replicate 12 1) is
-      words (0 ∷ 12 ∷ 73 ∷ 110 ∷ 99 ∷ 111 ∷ 110 ∷ 99 ∷ 108 ∷ 117 ∷ 115 ∷ 105 ∷ 118 ∷ 101 ∷ []))
+    words (0 ∷ 12 ∷ 73 ∷ 110 ∷ 99 ∷ 111 ∷ 110 ∷ 99 ∷ 108 ∷ 117 ∷ 115 ∷ 105 ∷ 118 ∷ 101 ∷ []))
     ∷ (writing Equiv (replicate 4 1) is words (19 ∷ 0 ∷ 1 ∷ 1 ∷ 1 ∷ 1 ∷ []))
     ∷ (shown (Value 2 3) is words (0 ∷ 2 ∷ 3 ∷ []))
     ∷ (shown (Failed Undriven) is words (1 ∷ 0 ∷ 0 ∷ []))

@@ -1,0 +1,2 @@
+-- what each operation on words does to bit j
+pub mod Bit

@@ -1,0 +1,25 @@
+-- `tables::rows::half` meets its contract: a program over k operands has at most 32 rows for k up to 5.
+use lib.Pow.{pow-mono}
+use native.Mathlib.Omega.{arith}
+use borrow.Author.Needs.{needs}
+use Rattle.tables.proofs.rows.half.Statement.{statement}
+use Rattle.tables.proofs.rows.half.Tie as tie
+
+power-of-two-requires : tie.Need-power-of-two-requires
+power-of-two-requires c κs = search needs
+
+shr-result : tie.Need-shr-result
+shr-result c = omega (arith, pow-mono (c .before .before .pre))
+
+returns : tie.Need-returns
+returns c = rw (c .if1 .taken, c .before .power-of-two .ensures)
+
+low-bits-requires : tie.Need-low-bits-requires
+low-bits-requires c κs = omega (arith, pow-mono (c .before .before .pre))
+
+returns-2 : tie.Need-returns-2
+returns-2 c = rw (c .before .if1 .left, ← c .before .before .power-of-two .ensures) (c .low-bits .ensures)
+
+pub half-spec : {M : Type 1} → statement M
+half-spec =
+    tie.close (tie.spec power-of-two-requires shr-result returns low-bits-requires returns-2)
