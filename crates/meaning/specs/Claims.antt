@@ -1,12 +1,17 @@
--- What is claimed of the rules, each claim with its proof in a line or two from the laws: the terms first, then the
--- customer's demands, the table of numbers, that no second outcome meets a contract, and the examples.
+-- What is claimed of the rules. Each claim is proved in a line or two from the laws.
+-- ---- the terms in which the claims are worded
 pub mod Terms
-pub mod Demands
 pub mod Column
+pub mod Drawn
+-- ---- the customer's demands 1, 2 and 3
+pub mod Demands
+-- ---- each number exactly when: the calls over node lists; the truth-table routines and the verdict's name
 pub mod Numbers
 pub mod Tables
-pub mod Reach
+-- ---- no second outcome meets a contract
 pub mod Only
-pub mod Drawn
+-- ---- reachable and least Cycle depth mean paths; the tests of equality mean equality
+pub mod Reach
+-- ---- the examples that document 01 marks *, and a line for each case of each rule
 pub mod Examples
 pub mod Cases

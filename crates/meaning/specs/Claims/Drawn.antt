@@ -13,7 +13,7 @@ use Rattle.meaning.specs.Rules.Kinds.{constWord, programWord, dontCareWo
 use Rattle.meaning.specs.Rules.Trees.{Tree, node, none, _◂_, rootOf}
 use Rattle.meaning.specs.Rules.Answers.{answer}
 use Rattle.meaning.specs.Rules.Assignments.{given}
-use Rattle.meaning.specs.Rules.Tables.{TableAnswer, says, outOfRange}
+use Rattle.meaning.specs.Rules.Tables.{TableAnswer, says}
 use Rattle.meaning.specs.Rules.Canonical.{forestOf, listedNodes, listedPool, canonicalNodes, canonicalPool}
 use Rattle.meaning.specs.Rules.Calls.{verifyRefusal, evaluateRefusal, comparison, separation, canonicalRefusal}
 
@@ -102,7 +102,7 @@ abbrev pub none-left : Said
 none-left = table (says 0 0)
 
 abbrev pub number-13 : Said
-number-13 = table outOfRange
+number-13 = table (record { number = 13; first = 0; second = 0 })
 
 -- a line of a table: what the definitions compute, and what the document says
 pub record Line : Type 0 where

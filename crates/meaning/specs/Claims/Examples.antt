@@ -1,12 +1,12 @@
 -- The examples that document 01 marks * ("Panel bench examples"), in its order, as one table under one claim.
 use Prim.Native.Nat.{ℕ}
 use mathlib.Core.Path.{_≡_, refl}
-use mathlib.Core.List.{List, [], _∷_, map}
+use mathlib.Core.List.{List, [], _∷_, map, _++_}
 use Rattle.meaning.specs.declared.Failure.the-variants.{DontCare}
 use Rattle.meaning.specs.declared.Answer.the-variants.{Value, Failed}
 use Rattle.meaning.specs.declared.Check.the-variants.{Equiv, NotEquiv, Inconclusive}
 use Rattle.meaning.specs.declared.Judgement.the-variants.{Separate, Crossing}
-use Rattle.meaning.specs.Rules.Trees.{treesOf, treeOf, rootOf, datumAt, childrenAt}
+use Rattle.meaning.specs.Rules.Trees.{treesOf, treeOf, rootOf, datumAt, childrenAt, nodeOf}
 use Rattle.meaning.specs.Rules.Search.{lowest}
 use Rattle.meaning.specs.Rules.Tables.{cofactor, ignores, removeLsbVar, cofactorsInMsb, swapPos}
 use Rattle.meaning.specs.Rules.Refusals.{atLowest}
@@ -27,8 +27,8 @@ runV1 = 2
 
 unfoldable pub bench : List Line
 bench =
-    (canonicalising (and v0 v1) is list (1 ∷ 8 ∷ 0 ∷ 3 ∷ 0 ∷ 0 ∷ 3 ∷ 1 ∷ 0 ∷ 9 ∷ 0 ∷ 3 ∷ []) (0 ∷ 1 ∷ 2 ∷ []))
-    ∷ (canonicalising (mux true v0 v1) is list (3 ∷ 0 ∷ 0 ∷ []) [])
+    (canonicalising (and v0 v1) is list (nodeOf 1 8 0 ++ nodeOf 3 0 0 ++ nodeOf 3 1 0 ++ nodeOf 9 0 3) (0 ∷ 1 ∷ 2 ∷ []))
+    ∷ (canonicalising (mux true v0 v1) is list (nodeOf 3 0 0) [])
     ∷ (evaluating (bus (v0 ∷ v1 ∷ [])) (1 ∷ 0 ∷ []) is answers (Value 2 2))
     ∷ (evaluating (and false dc) [] is answers (Value 1 0))
     ∷ (evaluating (nor dc true) [] is answers (Value 1 0))

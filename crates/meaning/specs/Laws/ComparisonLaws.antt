@@ -45,9 +45,9 @@ decided-not-equiv x y h = go (isValue x && isValue y) h
     go false e = let z : _≡_ {A = ℕ} 0 1 = cc in omega arith
 
 module _ (t u : Tree) where
-  found : IsLowest (decides t u) 0 (assignments t) (decidingIndex t u)
+  found : IsLowest (decides (inputs t) t u) 0 (assignments t) (decidingIndex t u)
   unfolding decidingIndex
-  found = lowest-is (decides t u) (assignments t)
+  found = lowest-is (decides (inputs t) t u) (assignments t)
 
   before : (j : ℕ) → j < decidingIndex t u → OneValue (first t u j) (second t u j)
   before j h = agree-one (first t u j) (second t u j) (not-is-false (agree (first t u j) (second t u j)) (found .before j (omega arith) h))

@@ -1,5 +1,6 @@
 -- Comparison (document 01, "Comparison and separation").
 use Prim.Native.Nat.{ℕ, _^_}
+use mathlib.Core.List.{List}
 use mathlib.Core.Bool.{Bool, true, false, cond, not, _&&_, _||_}
 use lib.ListN.{length}
 use lib.Dec.{leb, eqb}
@@ -43,12 +44,14 @@ fewInputs t u = require (same t u || leb (length (inputs t)) mostInputs) manyInp
 abbrev pub assignments : Tree → ℕ
 assignments t = 2 ^ length (inputs t)
 
--- an assignment that fails to give both roots one equal value
-abbrev pub decides : Tree → Tree → ℕ → Bool
-decides t u i = not (agree (answer (drive (inputs t) i) t) (answer (drive (inputs t) i) u))
+-- an assignment of the variables vs that fails to give both roots one equal value
+abbrev pub decides : List ℕ → Tree → Tree → ℕ → Bool
+decides vs t u i = not (agree (answer (drive vs i) t) (answer (drive vs i) u))
 
 unfoldable pub decidingIndex : Tree → Tree → ℕ
-decidingIndex t u = lowest (decides t u) (assignments t)
+decidingIndex t u =
+    let vs = inputs t in
+    lowest (decides vs t u) (2 ^ length vs)
 
 -- "NotEquiv if both have values there, else Inconclusive"
 abbrev pub verdictOf : Answer → Answer → Check

@@ -1,8 +1,8 @@
 -- Cases of Rules/Canonical: the canonical list, numbers 14 and 19.
-use Prim.Native.Nat.{ℕ, _+_, _*_, _^_}
+use Prim.Native.Nat.{ℕ, _+_, _*_, _^_, _-_}
 use mathlib.Core.Path.{refl}
 use mathlib.Core.List.{List, [], _∷_, _++_}
-use mathlib.Core.Bool as Bool
+use Rattle.meaning.specs.Rules.Limits.{wordsPerNode}
 use Rattle.meaning.specs.Rules.Trees.{Tree, node, none, _◂_, nodeOf, treesOf, treeOf, rootOf, datumAt, childrenAt}
 use Rattle.meaning.specs.Rules.Search.{lowest}
 use Rattle.meaning.specs.Rules.Refusals.{atLowest}
@@ -71,11 +71,11 @@ canonicals =
     ∷ (canonicalising (inv (bus (v0 ∷ []))) is refused 14 2)
     ∷ (canonicalising (nor (bus (v0 ∷ [])) (bus (v0 ∷ []))) is refused 14 2)
     ∷ (canonicalising (mux true (bus (v0 ∷ [])) (bus (v1 ∷ []))) is refused 14 5)
-    ∷ (numbered (canonicalRefusal (nodeOf 10 0 0 ++ nodeOf 8 0 1 ++ nodeOf 3 0 0) (0 ∷ []) 100 9 0) is done)
+    ∷ (numbered (canonicalRefusal (nodeOf 10 0 0 ++ nodeOf 8 0 1 ++ nodeOf 3 0 0) (0 ∷ []) 100 (wordsPerNode * 3) 0) is done)
     -- 19: last, and only of what is too short
-    ∷ (fitting (and v0 v1) 12 3 is done)
-    ∷ (fitting (and v0 v1) 11 3 is refused 19 0)
-    ∷ (fitting (and v0 v1) 12 2 is refused 19 0)
+    ∷ (fitting (and v0 v1) (wordsPerNode * 4) 3 is done)
+    ∷ (fitting (and v0 v1) (wordsPerNode * 4 - 1) 3 is refused 19 0)
+    ∷ (fitting (and v0 v1) (wordsPerNode * 4) 2 is refused 19 0)
     ∷ (fitting (inv (bus [])) 0 0 is refused 14 1)
     ∷ []
 

@@ -2,7 +2,6 @@
 use Prim.Native.Nat.{ℕ, zero, suc, _*_, _-_}
 use mathlib.Core.Path.{refl}
 use mathlib.Core.List.{List, [], _∷_}
-use mathlib.Core.Bool as Bool
 use Rattle.meaning.specs.declared.Check.the-variants.{Equiv, NotEquiv, Inconclusive}
 use Rattle.meaning.specs.Rules.Limits.{workPerNode}
 use Rattle.meaning.specs.Rules.Trees.{Tree, nodeOf, treesOf, treeOf, rootOf, datumAt, childrenAt}
@@ -25,13 +24,9 @@ vars from (suc n) = var from ∷ vars (suc from) n
 
 unfoldable pub comparisons : List Line
 comparisons =
-    -- equal trees: Equiv, DC or not, however many variables; 31 inputs with unequal trees is 9
+    -- equal trees: Equiv, DC or not
     (comparing dc dc is verdict Equiv 0)
     ∷ (comparing (reg 11 v0) (reg 11 v0) is verdict Equiv 0)
-    ∷ (numbered (fewInputs (bus (vars 0 31)) (bus (vars 0 31))) is done)
-    ∷ (numbered (fewInputs (bus (vars 0 31)) false) is refused 9 0)
-    ∷ (numbered (fewInputs (bus (vars 0 30)) false) is done)
-    ∷ (numbered (fewInputs false (bus (vars 0 31))) is done)
     -- bit j drives the j-th smallest variable below the FIRST root; the second list's others are undriven
     ∷ (comparing (and (var 7) (var 3)) (var 7) is verdict NotEquiv 2)
     ∷ (comparing (and (var 3) (var 7)) (var 3) is verdict NotEquiv 1)
@@ -58,3 +53,16 @@ comparisons =
 pub comparison-cases : Agree comparisons
 unfolding comparisons lowest comparing treesOf treeOf rootOf datumAt childrenAt atLowest sizes layoutFault layout marks verifyFault verification shapeFault evaluability sound inputs compareRefusal comparison decidingIndex compareTrees subtrees listedNodes listedPool
 comparison-cases = refl
+
+-- equal trees however many variables; 31 below the first root with unequal trees is 9
+unfoldable pub inputCounts : List Line
+inputCounts =
+    (numbered (fewInputs (bus (vars 0 31)) (bus (vars 0 31))) is done)
+    ∷ (numbered (fewInputs (bus (vars 0 31)) false) is refused 9 0)
+    ∷ (numbered (fewInputs (bus (vars 0 30)) false) is done)
+    ∷ (numbered (fewInputs false (bus (vars 0 31))) is done)
+    ∷ []
+
+pub input-cases : Agree inputCounts
+unfolding inputCounts inputs
+input-cases = refl

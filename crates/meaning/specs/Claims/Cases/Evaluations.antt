@@ -2,7 +2,6 @@
 use Prim.Native.Nat.{ℕ, suc, _^_}
 use mathlib.Core.Path.{refl}
 use mathlib.Core.List.{List, [], _∷_}
-use mathlib.Core.Bool as Bool
 use lib.ListN.{replicate}
 use Rattle.meaning.specs.declared.Failure.the-variants.{Undriven, DontCare, Register, Argument}
 use Rattle.meaning.specs.declared.Answer.the-variants.{Value, Failed}
@@ -112,6 +111,7 @@ evaluations =
     -- Bus: its last member is bit 0; the last failing member
     ∷ (evaluating (bus (true ∷ false ∷ false ∷ [])) [] is value 3 4)
     ∷ (evaluating (bus (dc ∷ v9 ∷ true ∷ [])) [] is undriven)
+    ∷ (evaluating (bus (dc ∷ true ∷ v9 ∷ [])) [] is undriven)
     ∷ (evaluating (bus (v9 ∷ dc ∷ [])) [] is dont-care)
     ∷ (evaluating (bus []) [] is value 0 0)
     -- 12

@@ -2,9 +2,8 @@
 use Prim.Native.Nat.{ℕ, suc, _+_, _*_, _-_}
 use mathlib.Core.Path.{refl}
 use mathlib.Core.List.{List, [], _∷_, _++_}
-use mathlib.Core.Bool as Bool
 use lib.ListN.{replicate}
-use Rattle.meaning.specs.Rules.Limits.{wordsPerNode, mostNodes, mostPool, workPerNode, workPerPool}
+use Rattle.meaning.specs.Rules.Limits.{wordsPerNode, mostNodes, mostPool, workPerNode, workPerPool, variableCount}
 use Rattle.meaning.specs.Rules.Trees.{nodeOf, treesOf, treeOf, datumAt, childrenAt}
 use Rattle.meaning.specs.Rules.Search.{lowest}
 use Rattle.meaning.specs.Rules.Refusals.{isDone, atLowest}
@@ -62,8 +61,8 @@ layouts =
     ∷ (laying 0 2 0 is refused 4 1)
     ∷ (laying 1 half half is done)
     ∷ (laying 2 1 0 is refused 4 1)
-    ∷ (laying 3 255 0 is done)
-    ∷ (laying 3 256 0 is refused 4 1)
+    ∷ (laying 3 (variableCount - 1) 0 is done)
+    ∷ (laying 3 variableCount 0 is refused 4 1)
     -- first + count at the pool's length, above it, and where 32 bits would wrap
     ∷ (laying 9 6 2 is done)
     ∷ (laying 9 7 2 is refused 4 1)

@@ -1,13 +1,12 @@
 -- Cases of Rules/Calls: whole outcomes, lent slices included.
-use Prim.Native.Nat.{ℕ, suc, _+_, _*_}
+use Prim.Native.Nat.{ℕ, suc, _+_, _*_, _-_}
 use mathlib.Core.Path.{_≡_, refl}
 use mathlib.Core.List.{List, [], _∷_, _++_, map}
 use mathlib.Core.Bool.{cond}
-use mathlib.Core.Bool as Bool
 use lib.ListN.{replicate}
 use lib.Dec.{eqb}
 use Rattle.meaning.specs.declared.Answer.{Answer}
-use Rattle.meaning.specs.Rules.Limits.{mostPool, workPerNode, workPerPool}
+use Rattle.meaning.specs.Rules.Limits.{mostPool, workPerNode, workPerPool, wordsPerNode}
 use Rattle.meaning.specs.Rules.Trees.{Tree, node, nodeOf, treesOf, treeOf, rootOf, datumAt, childrenAt}
 use Rattle.meaning.specs.Rules.Search.{lowest}
 use Rattle.meaning.specs.Rules.Lent.{cleared}
@@ -95,6 +94,10 @@ a leaves b = record { computed = a; document = b }
 abbrev pub some-nodes : List ℕ
 some-nodes = nodeOf 3 9 0 ++ nodeOf 1 2 0 ++ nodeOf 3 0 0 ++ nodeOf 9 0 2
 
+-- the node words of the canonical list of Not(v0): a Program, v0, a Lut
+abbrev pub inverterWords : ℕ
+inverterWords = wordsPerNode * 3
+
 unfoldable pub outcomes : List Whole
 outcomes =
     -- work space untouched after 1, 2 and 10, and else all zeros, the whole of it
@@ -132,12 +135,12 @@ outcomes =
     ∷ (separateAll v0 0 0 (workOf 1 0) leaves outcome (11 ∷ 0 ∷ 1 ∷ 0 ∷ 0 ∷ 0 ∷ 0 ∷ 0 ∷ 0 ∷ 0 ∷ []) zeros [])
     ∷ (separateAll v0 1 0 (1 ∷ []) leaves outcome (10 ∷ 0 ∷ 1 ∷ 0 ∷ 0 ∷ 0 ∷ 0 ∷ 0 ∷ 0 ∷ 0 ∷ []) untouched [])
     -- the words that the answer takes, and the two outputs
-    ∷ (canonicaliseAll (inv v0) (workOf 2 1) (replicate 10 7) (replicate 3 7) leaves
-    outcome (0 ∷ 0 ∷ 9 ∷ 2 ∷ []) zeros ((nodeOf 1 1 0 ++ nodeOf 3 0 0 ++ nodeOf 9 0 2 ++ (7 ∷ [])) ∷ (0 ∷ 1 ∷ 7 ∷ []) ∷ []))
-    ∷ (canonicaliseAll (inv v0) (workOf 2 1) (replicate 8 7) (replicate 3 7) leaves
-    outcome (19 ∷ 0 ∷ 0 ∷ 0 ∷ []) zeros (replicate 8 7 ∷ replicate 3 7 ∷ []))
-    ∷ (canonicaliseAll (inv v0) (1 ∷ []) (replicate 9 7) (replicate 2 7) leaves
-    outcome (10 ∷ 0 ∷ 0 ∷ 0 ∷ []) untouched (replicate 9 7 ∷ replicate 2 7 ∷ []))
+    ∷ (canonicaliseAll (inv v0) (workOf 2 1) (replicate (inverterWords + 1) 7) (replicate 3 7) leaves
+    outcome (0 ∷ 0 ∷ inverterWords ∷ 2 ∷ []) zeros ((nodeOf 1 1 0 ++ nodeOf 3 0 0 ++ nodeOf 9 0 2 ++ (7 ∷ [])) ∷ (0 ∷ 1 ∷ 7 ∷ []) ∷ []))
+    ∷ (canonicaliseAll (inv v0) (workOf 2 1) (replicate (inverterWords - 1) 7) (replicate 3 7) leaves
+    outcome (19 ∷ 0 ∷ 0 ∷ 0 ∷ []) zeros (replicate (inverterWords - 1) 7 ∷ replicate 3 7 ∷ []))
+    ∷ (canonicaliseAll (inv v0) (1 ∷ []) (replicate inverterWords 7) (replicate 2 7) leaves
+    outcome (10 ∷ 0 ∷ 0 ∷ 0 ∷ []) untouched (replicate inverterWords 7 ∷ replicate 2 7 ∷ []))
     ∷ []
 
 pub outcome-cases : map (λ (w : Whole). w .computed) outcomes ≡ map (λ (w : Whole). w .document) outcomes

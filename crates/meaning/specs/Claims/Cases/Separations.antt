@@ -1,7 +1,6 @@
 -- Cases of Rules/Separation: the judgement, and number 11.
 use mathlib.Core.Path.{refl}
 use mathlib.Core.List.{List, [], _∷_, _++_}
-use mathlib.Core.Bool as Bool
 use Rattle.meaning.specs.declared.Judgement.the-variants.{Separate, Crossing}
 use Rattle.meaning.specs.Rules.Trees.{nodeOf, treesOf, treeOf, rootOf, datumAt, childrenAt}
 use Rattle.meaning.specs.Rules.Search.{lowest}

@@ -1,16 +1,16 @@
 -- Cases of Rules/Evaluable: numbers 7 and 8.
 use mathlib.Core.Path.{refl}
-use mathlib.Core.List.{List, [], _∷_, _++_}
-use mathlib.Core.Bool as Bool
+use mathlib.Core.List.{List, [], _∷_, _++_, map}
 use Rattle.meaning.specs.Rules.Trees.{Tree, nodeOf, treesOf, treeOf, rootOf, datumAt, childrenAt}
 use Rattle.meaning.specs.Rules.Search.{lowest}
 use Rattle.meaning.specs.Rules.Refusals.{atLowest}
 use Rattle.meaning.specs.Rules.Layout.{layoutFault, layout}
 use Rattle.meaning.specs.Rules.Reach.{marks}
 use Rattle.meaning.specs.Rules.Verification.{verifyFault, verification}
+use Rattle.meaning.specs.Rules.Evaluable as shape
 use Rattle.meaning.specs.Rules.Evaluable.{shapeFault, evaluability, sound}
 use Rattle.meaning.specs.Rules.Canonical.{subtrees, lut, listedNodes, listedPool}
-use Rattle.meaning.specs.Claims.Drawn.{Said, Line, _is_, false, dc, v0, v1, program, nor, mux, and, xor, inv, bus, reg, arg, cycle, refused, done, Agree, numbered}
+use Rattle.meaning.specs.Claims.Drawn.{Said, Line, _is_, false, dc, v0, v1, program, nor, mux, and, xor, inv, bus, reg, arg, cycle, refused, words, done, Agree, numbered}
 
 -- numbers 3 to 8 of a term's list
 unfoldable pub sounding : Tree → Said
@@ -50,6 +50,9 @@ soundness =
     ∷ (sounding (bus1 (cycle (bus1 v0))) is refused 8 3)
     ∷ (sounding (bus1 (mux v0 v1 v1)) is done)
     ∷ (sounding (inv (bus [])) is done)
+    -- shapes as numbers, and the widths of their values
+    ∷ (words (map shape.shapeCode (shape.program ∷ shape.bit ∷ shape.bus 0 ∷ shape.bus 64 ∷ [])) is words (0 ∷ 1 ∷ 2 ∷ 66 ∷ []))
+    ∷ (words (map shape.widthOf (shape.bit ∷ shape.bus 0 ∷ shape.bus 64 ∷ [])) is words (1 ∷ 0 ∷ 64 ∷ []))
     -- 7 is asked after 6 and before 8
     ∷ (numbered (sound [] []) is refused 7 0)
     -- an unreachable misfit doesn't count

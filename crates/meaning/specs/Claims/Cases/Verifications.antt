@@ -2,7 +2,6 @@
 use Prim.Native.Nat.{ℕ, _+_}
 use mathlib.Core.Path.{refl}
 use mathlib.Core.List.{List, [], _∷_, _++_}
-use mathlib.Core.Bool as Bool
 use lib.ListN.{replicate}
 use Rattle.meaning.specs.Rules.Trees.{Tree, node, none, _◂_, nodeOf, treesOf, treeOf, rootOf, datumAt, childrenAt}
 use Rattle.meaning.specs.Rules.Search.{lowest}

@@ -1,0 +1,5 @@
+pub mod Words
+pub mod Laws
+pub mod Claims
+pub mod Rows
+pub mod RowLaws
