@@ -6,29 +6,31 @@ use Prim.Native.Nat.{ℕ, suc, _+_, _%_, _≤_, _<_}
 use mathlib.Core.Path.{_≡_, refl}
 use mathlib.Core.Logic.{_⊎_}
 use mathlib.Core.List.{List, [], _∷_, _++_}
-use mathlib.Core.Bool.{true, false}
+use mathlib.Core.Bool.{true, false, _||_}
 use native.Mathlib.Omega.{arith}
 use lib.ListN.{length}
-use lib.Dec.{ltb}
+use lib.Dec.{ltb, leb}
 use borrow.Author.Tests.{ne-eqb}
 use Rattle.meaning.specs.declared.Refusal.{Refusal}
 use Rattle.meaning.specs.Rules.Limits.{wordsPerNode, mostInputs}
 use Rattle.meaning.specs.Rules.Numbers.{shortOutput}
-use Rattle.meaning.specs.Rules.Trees.{rootOf}
+use Rattle.meaning.specs.Rules.Trees.{rootOf, same}
 use Rattle.meaning.specs.Rules.Refusals.{_then_, require, every}
 use Rattle.meaning.specs.Rules.Layout.{sizes, workFor, room, layout}
 use Rattle.meaning.specs.Rules.Verification.{verification}
 use Rattle.meaning.specs.Rules.Evaluable.{sound}
 use Rattle.meaning.specs.Rules.Assignments.{inputs, isIn}
 use Rattle.meaning.specs.Rules.Pairs.{pairWords}
-use Rattle.meaning.specs.Rules.Separation.{bounded}
-use Rattle.meaning.specs.Rules.Comparison.{fewInputs}
+use Rattle.meaning.specs.Rules.Separation.{bounded, separateTree, separationRefused, inBounds}
+use Rattle.meaning.specs.Rules.Comparison.{fewInputs, compareTrees, comparisonRefused}
 use Rattle.meaning.specs.Rules.Canonical.{gates}
-use Rattle.meaning.specs.Rules.Calls.{verifyRefusal, assigned, fitsPairs, evaluateRefusal, compareRefusal, separateRefusal, fitsLists, canonicalRefusal}
+use Rattle.meaning.specs.Rules.Calls.{verifyRefusal, verify, assigned, fitsPairs, evaluateRefusal, evaluation, evaluate, compareRefusal, comparison, compare, separateRefusal, separation, separate, fitsLists, canonicalRefusal, canonical, canonicalise}
 use Rattle.meaning.specs.Claims.Terms.{NoNode, Exactly, Passed, Says}
 use Rattle.meaning.specs.Claims.Column.{Misaligned, OverLimit, Sized, KindAbove, BreaksLayout, ChildNotBelow, WellLaid, Unverified, Verifies, Empty, Rooted, Misfit, Fits, WideGate, NoWideGate, All, Lowest, Sound, ManyInputs, OutOfBounds, InBounds, NoAssignment, IsAssignment, NoRoom, Room}
-use Rattle.meaning.specs.Laws.NumberLaws.{then-says, require-says, late-apart, here, skip, either, both-passed}
-use Rattle.meaning.specs.Laws.ColumnLaws.{sizes-says, sizes-passed, sizes-1, sizes-2, layout-says, layout-passed, layout-3, layout-4, layout-5, verification-says, verification-passed, verification-6, gates-says, gates-passed, gates-14, room-says, room-passed, room-10, few-says, few-passed, few-9, bounded-says, bounded-passed, bounded-11, assigned-says, assigned-passed, assigned-12, pairs-says, pairs-passed, pairs-19, lists-passed, lists-19, sound-says, sound-passed, sound-3, sound-4, sound-5, sound-6, sound-7, sound-8}
+use Rattle.meaning.specs.Laws.NumberLaws.{then-says, require-says, late-apart, here, skip, either, both-passed, require-zero, then-zero, carries}
+use Rattle.meaning.specs.Laws.ColumnLaws.{sizes-says, sizes-passed, sizes-1, sizes-2, layout-says, layout-passed, layout-3, layout-4, layout-5, verification-says, verification-passed, verification-6, gates-says, gates-passed, gates-14, room-says, room-passed, room-10, few-says, few-passed, few-9, bounded-says, bounded-passed, bounded-11, assigned-says, assigned-passed, assigned-12, pairs-says, pairs-passed, pairs-19, lists-passed, lists-19, sound-says, sound-passed, sound-3, sound-4, sound-5, sound-6, sound-7, sound-8, sizes-zero, sound-zero}
+use Rattle.meaning.specs.Laws.ComparisonLaws.{compared-done}
+use Rattle.meaning.specs.Laws.SeparationLaws.{judged-no-refusal}
 
 -- ==== verify: 1, 2, 10, 3, 4, 5, 6; "never answers 7 or 8"
 module _ (ns ps : List ℕ) (work : ℕ) where
@@ -363,3 +365,39 @@ module _ (ns ps ms qs : List ℕ) (work : ℕ) where
       Exactly (compareRefusal ns ps ms qs work) 9 (λ i. Begun (Sound ns ps × (Sound ms qs × NoNode (ManyInputs ns ps ms qs) i)))
   compare-9 =
       begun-lists refl refl (skip (sound-says ns ps) refl (sound-passed ns ps) (skip (sound-says ms qs) refl (sound-passed ms qs) (few-9 ns ps ms qs)))
+
+-- ==== What a call hands back carries the refusal that the claims above are about
+pub verify-carries : (ns ps work : List ℕ) → verify ns ps work .answer ≡ verifyRefusal ns ps (length work)
+unfolding verify
+verify-carries ns ps work = refl
+
+pub evaluate-carries : (ns ps bytes work out : List ℕ)
+    → evaluate ns ps bytes work out .answer .refusal ≡ evaluateRefusal ns ps bytes (length work) (length out)
+unfolding evaluate evaluation
+evaluate-carries ns ps bytes work out = refl
+
+pub canonicalise-carries : (ns ps work outNodes outPool : List ℕ)
+    → canonicalise ns ps work outNodes outPool .answer .refusal
+    ≡ canonicalRefusal ns ps (length work) (length outNodes) (length outPool)
+unfolding canonicalise canonical
+canonicalise-carries ns ps work outNodes outPool = refl
+
+pub compare-carries : (ns ps ms qs work : List ℕ)
+    → compare ns ps ms qs work .answer .refusal ≡ compareRefusal ns ps ms qs (length work)
+unfolding compare comparison compareRefusal compareTrees
+compare-carries ns ps ms qs work =
+    let t = rootOf ns ps in
+    let u = rootOf ms qs in
+    carries (λ c. c .refusal) (compareRefusal ns ps ms qs (length work)) (compareTrees t u) (comparisonRefused (compareRefusal ns ps ms qs (length work)))
+    (then-zero (sizes-zero ns ps) (then-zero (sizes-zero ms qs) (then-zero (require-zero (leb (workFor ns ps + workFor ms qs) (length work)) 9)
+    (then-zero (sound-zero ns ps) (then-zero (sound-zero ms qs) (require-zero (same t u || leb (length (inputs t)) mostInputs) 8))))))
+    (compared-done t u) refl
+
+pub separate-carries : (ns ps : List ℕ) (n run : ℕ) (work : List ℕ)
+    → separate ns ps n run work .answer .refusal ≡ separateRefusal ns ps n run (length work)
+unfolding separate separation separateRefusal
+separate-carries ns ps n run work =
+    carries (λ s. s .refusal) (separateRefusal ns ps n run (length work)) (separateTree (rootOf ns ps) n run) (separationRefused (separateRefusal ns ps n run (length work)))
+    (then-zero (sizes-zero ns ps) (then-zero (require-zero (leb (workFor ns ps) (length work)) 9)
+    (then-zero (sound-zero ns ps) (require-zero (inBounds ns n run) 10))))
+    (judged-no-refusal (rootOf ns ps) n run) refl

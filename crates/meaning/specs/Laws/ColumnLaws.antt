@@ -26,7 +26,7 @@ use Rattle.meaning.specs.Rules.Calls.{assigned, fitsPairs, fitsLists}
 use Rattle.meaning.specs.Claims.Terms.{NoNode, Exactly, Passed, Says}
 use Rattle.meaning.specs.Claims.Column.{Misaligned, OverLimit, Sized, KindAbove, BreaksLayout, ChildNotBelow, WellLaid, Unverified, Verifies, Empty, Rooted, Misfit, Fits, WideGate, NoWideGate, All, Lowest, Sound, ManyInputs, OutOfBounds, InBounds, NoAssignment, IsAssignment, NoRoom, Room}
 use Rattle.meaning.specs.Laws.BoolLaws.{true-false, not-is-true, not-is-false, not-false}
-use Rattle.meaning.specs.Laws.NumberLaws.{then-says, require-says, lowest-says, require-exactly, require-passed, lowest-exactly, lowest-passed, here, skip, both-passed}
+use Rattle.meaning.specs.Laws.NumberLaws.{then-says, require-says, lowest-says, require-exactly, require-passed, lowest-exactly, lowest-passed, here, skip, both-passed, ZeroDone, require-zero, lowest-zero, then-zero}
 use Rattle.meaning.specs.Laws.TestLaws.{is-eq, is-ne, is-le, is-above, is-lt, is-from, both, one-fails, counts-and, fine-if, every-is, every-fails, none-is, one-is, high-bit, flagged, unflagged, flag-says, graded-none, graded-first, graded-second, graded-third, graded-says, same-is, same-not, one-of, neither}
 
 -- one statement through another
@@ -327,3 +327,15 @@ module _ (ns ps : List ℕ) where
   sound-8 =
       skip (layout-says ns ps) refl (layout-passed ns ps)
       (skip (verification-says ns ps) refl (verification-passed ns ps) (skip (rooted-says ns ps) refl (rooted-passed ns ps) (evaluability-8 ns ps)))
+
+-- ---- number 0 names no node, of the tests that a comparison and a separation make
+module _ (ns ps : List ℕ) where
+  pub sizes-zero : ZeroDone (sizes ns ps)
+  unfolding sizes
+  sizes-zero = then-zero (require-zero (aligned ns) 0) (require-zero (withinLimits ns ps) 1)
+
+  pub sound-zero : ZeroDone (sound ns ps)
+  unfolding sound layout verification evaluability
+  sound-zero =
+      then-zero (lowest-zero (nodeCount ns) (layoutFault ns ps)) (then-zero (lowest-zero (nodeCount ns) (verifyFault ns ps))
+      (then-zero (require-zero (ltb 0 (nodeCount ns)) 6) (lowest-zero (nodeCount ns) (shapeFault ns ps))))

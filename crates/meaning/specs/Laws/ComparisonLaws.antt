@@ -19,7 +19,7 @@ use Rattle.meaning.specs.Rules.Search.{lowest}
 use Rattle.meaning.specs.Rules.Trees.{Tree, same, rootOf}
 use Rattle.meaning.specs.Laws.TreeLaws.{same-eq, eq-same}
 use Rattle.meaning.specs.Rules.Answers.{Assignment, answer}
-use Rattle.meaning.specs.Rules.Refusals.{isDone}
+use Rattle.meaning.specs.Rules.Refusals.{isDone, done}
 use Rattle.meaning.specs.Rules.Assignments.{inputs, drive}
 use Rattle.meaning.specs.Rules.Layout.{sizes, workFor, room}
 use Rattle.meaning.specs.Rules.Evaluable.{sound}
@@ -109,6 +109,15 @@ module _ (t u : Tree) where
         answers = (refl, refl);
         verdict = refl;
       })
+
+-- two trees compared answer with no refusal
+pub compared-done : (t u : Tree) → compareTrees t u .refusal ≡ done
+unfolding compareTrees
+compared-done t u = go (same t u || eqb (decidingIndex t u) (assignments t))
+  where
+    go : (b : Bool) → cond b equivalent (decidedAt (decidingIndex t u) (first t u (decidingIndex t u)) (second t u (decidingIndex t u))) .refusal ≡ done
+    go true = refl
+    go false = refl
 
 -- ---- a call that is not refused
 module _ (ns ps ms qs : List ℕ) (work : ℕ) (done : comparison ns ps ms qs work .refusal .number ≡ 0) where

@@ -3,7 +3,7 @@ use Prim.Native.Nat.{ℕ, suc, _<_}
 use mathlib.Core.Path.{_≡_, refl, sym, ap, subst, _∙_}
 use mathlib.Core.Logic.{_↔_, _⊎_, inl, inr, ⊎-elim}
 use mathlib.Core.List.{List, [], _∷_, _++_}
-use mathlib.Core.Bool.{Bool, true, false, _||_, or-true}
+use mathlib.Core.Bool.{Bool, true, false, _||_, or-true, cond}
 use native.Mathlib.Omega.{arith}
 use native.Mathlib.Decide.{decLt}
 use lib.Dec.{ltb, eqb}
@@ -194,3 +194,31 @@ both-passed {r} {s} {P} {Q} p q = record {
   when = by-first r s (λ x. (x .number ≡ 0) ↔ (P × Q))
       (λ z. (λ h. (p .when .0 z, q .when .0 h), λ f. q .when .1 (f .1))) (λ z. (λ h. absurd (z h), λ f. absurd (z (p .when .1 (f .0)))));
 }
+
+-- ---- number 0 names no node: a row that is 0 is done
+pub record ZeroDone (r : Refusal) : Type 0 where
+  pub is : r .number ≡ 0 → r ≡ done
+
+pub require-zero : (test : Bool) (n : ℕ) → ZeroDone (require test (suc n))
+require-zero true n = record { is = λ h. refl }
+require-zero false n = record { is = λ h. absurd (omega arith) }
+
+pub lowest-zero : (n : ℕ) (fault : ℕ → ℕ) → ZeroDone (atLowest n fault)
+lowest-zero n fault = elim (decLt (lowest (faulty n fault) n) n) [
+  | yes l ↦ record {
+    is = λ h. absurd (omega (arith, ap numberOf (lowest-there n fault l), ltb-true 0 (fault (lowest (faulty n fault) n)) (found n fault .passes l)));
+  }
+  | no l ↦ record { is = λ h. lowest-none n fault l }
+]
+
+pub then-zero : {r s : Refusal} → ZeroDone r → ZeroDone s → ZeroDone (r then s)
+then-zero {r} {s} p q = record { is = by-first r s (λ x. x .number ≡ 0 → x ≡ done) (λ z. q .is) (λ z. p .is) }
+
+-- an outcome that carries `done` where the row is done, and else the row's refusal, carries the row's refusal
+pub carries : {A : Type 0} (refusal : A → Refusal) (r : Refusal) (answered refused : A) → ZeroDone r
+    → refusal answered ≡ done → refusal refused ≡ r → refusal (cond (isDone r) answered refused) ≡ r
+carries refusal r answered refused z a b = go (isDone r) refl
+  where
+    go : (t : Bool) → isDone r ≡ t → refusal (cond (isDone r) answered refused) ≡ r
+    go true e = rw e (a ∙ sym (z .is (eqb-true (r .number) 0 e)))
+    go false e = rw e b

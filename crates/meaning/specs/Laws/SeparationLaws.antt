@@ -17,7 +17,7 @@ use Rattle.meaning.specs.Laws.SearchLaws.{IsLowest, lowest-is}
 use Rattle.meaning.specs.Rules.Search.{lowest}
 use Rattle.meaning.specs.Rules.Trees.{Tree, same, rootOf}
 use Rattle.meaning.specs.Rules.Answers.{Assignment, answer}
-use Rattle.meaning.specs.Rules.Refusals.{isDone}
+use Rattle.meaning.specs.Rules.Refusals.{isDone, done}
 use Rattle.meaning.specs.Rules.Assignments.{drive, upto, Assigns, isIn}
 use Rattle.meaning.specs.Rules.Layout.{sizes, workFor, room}
 use Rattle.meaning.specs.Rules.Evaluable.{sound}
@@ -112,6 +112,15 @@ module _ (t : Tree) (n run : ℕ) (below : run < 2 ^ n) where
       let no : crossingIndex t n run ≡ 2 ^ n → ⊥ = λ e. h (ap (λ (s : Separation). s .judgement) (separate-is e)) in
       let k : crossingIndex t n run < 2 ^ n = omega (arith, found-crossing .within, no) in
       rw (crossing-is no) (record { judgement = refl; exists = k; differs = differ-at k; lowest = same-before; answers = (refl, refl) })
+
+-- a tree judged answers with no refusal
+pub judged-no-refusal : (t : Tree) (n run : ℕ) → separateTree t n run .refusal ≡ done
+unfolding separateTree
+judged-no-refusal t n run = go (eqb (crossingIndex t n run) (2 ^ n))
+  where
+    go : (b : Bool) → cond b separated (crossingAt (crossingIndex t n run) (asRun t n run (crossingIndex t n run)) (asCleared t n run (crossingIndex t n run))) .refusal ≡ done
+    go true = refl
+    go false = refl
 
 -- ---- a call that is not refused
 module _ (ns ps : List ℕ) (n run work : ℕ) (done : separation ns ps n run work .refusal .number ≡ 0) where

@@ -105,6 +105,8 @@ evaluations =
     ∷ (evaluating (lut 4 (true ∷ false ∷ [])) [] is value 1 1)
     ∷ (evaluating (lut 1 []) [] is value 1 1)
     ∷ (evaluating (lut (2 ^ 63) (true ∷ true ∷ true ∷ true ∷ true ∷ true ∷ [])) [] is value 1 1)
+    ∷ (evaluating (lut (2 ^ 32) (true ∷ false ∷ false ∷ false ∷ false ∷ false ∷ [])) [] is value 1 1)
+    ∷ (evaluating (lut (2 ^ 32) (true ∷ false ∷ false ∷ false ∷ false ∷ true ∷ [])) [] is value 1 0)
     ∷ (evaluating (lut 15 (true ∷ dc ∷ [])) [] is dont-care)
     ∷ (evaluating (lut 15 (dc ∷ v9 ∷ [])) [] is dont-care)
     ∷ (evaluating (lut 15 (v9 ∷ dc ∷ [])) [] is undriven)

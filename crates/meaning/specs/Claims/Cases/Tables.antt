@@ -5,14 +5,32 @@ use mathlib.Core.List.{List, [], _∷_}
 use mathlib.Core.Bool.{Bool}
 use mathlib.Core.Bool as Bool
 use lib.ListN.{replicate}
+use Rattle.meaning.specs.declared.LutBit.the-variants as lutBit
+use Rattle.meaning.specs.declared.BitVector.the-variants as bitVector
+use Rattle.meaning.specs.declared.Removed.the-variants as removed
+use Rattle.meaning.specs.declared.TableProgram.the-variants as tableProgram
+use Rattle.meaning.specs.declared.Cofactors.the-variants as cofactors
 use Rattle.meaning.specs.Rules.Search.{lowest}
-use Rattle.meaning.specs.Rules.Tables.{cofactor, ignores, evalLut, evalLutBv, toBitvec, removeLsbVar, evalLutConstInput, cofactorsInMsb, swapPos}
+use Rattle.meaning.specs.Rules.Tables.{lutBitSays, bitVectorSays, removedSays, tableProgramSays, cofactorsSay, cofactor, ignores, evalLut, evalLutBv, toBitvec, removeLsbVar, evalLutConstInput, cofactorsInMsb, swapPos}
 use Rattle.meaning.specs.Claims.Drawn.{Line, _is_, false, true, table, gives, pair, smaller, none-left, number-13, Agree, all-ones, half}
 
 unfoldable pub tables : List Line
 tables =
+    -- what each answer type says
+    (table (lutBitSays (lutBit.Bit Bool.true)) is gives 1)
+    ∷ (table (lutBitSays (lutBit.Bit Bool.false)) is gives 0)
+    ∷ (table (lutBitSays lutBit.OutOfRange) is number-13)
+    ∷ (table (bitVectorSays (bitVector.Bits 3 5)) is pair 3 5)
+    ∷ (table (bitVectorSays bitVector.OutOfRange) is number-13)
+    ∷ (table (removedSays (removed.Smaller 5)) is smaller 5)
+    ∷ (table (removedSays removed.Nothing) is none-left)
+    ∷ (table (removedSays removed.OutOfRange) is number-13)
+    ∷ (table (tableProgramSays (tableProgram.Program 5)) is gives 5)
+    ∷ (table (tableProgramSays tableProgram.OutOfRange) is number-13)
+    ∷ (table (cofactorsSay (cofactors.Pair 3 5)) is pair 3 5)
+    ∷ (table (cofactorsSay cofactors.OutOfRange) is number-13)
     -- the first input is the high row bit in the one, the low in the other
-    (table (evalLut 2 (0 ∷ 1 ∷ [])) is gives 1)
+    ∷ (table (evalLut 2 (0 ∷ 1 ∷ [])) is gives 1)
     ∷ (table (evalLut 2 (1 ∷ 0 ∷ [])) is gives 0)
     ∷ (table (evalLutBv 2 (1 ∷ 0 ∷ [])) is gives 1)
     ∷ (table (evalLutBv 2 (0 ∷ 1 ∷ [])) is gives 0)

@@ -16,7 +16,8 @@ use Rattle.meaning.specs.Rules.Kinds.{kindOf, isPlain}
 use Rattle.meaning.specs.Rules.Assignments.{select}
 use Rattle.meaning.specs.Rules.Answers.{stateOf, answerWidth, valueOf}
 use Rattle.meaning.specs.Rules.Separation.{judgementNumber}
-use Rattle.meaning.specs.Rules.Verdict.{checkNumber, isEquiv, isNotEquiv, isInconclusive, isConclusive, decided, decisionNumber, display}
+use Rattle.meaning.specs.declared.Written.the-variants.{Bytes, TooShort}
+use Rattle.meaning.specs.Rules.Verdict.{writtenNumber, writtenBytes, checkNumber, isEquiv, isNotEquiv, isInconclusive, isConclusive, decided, decisionNumber, display}
 use Rattle.meaning.specs.Claims.Drawn.{Said, Line, _is_, false, true, words, test, Agree}
 
 unfoldable pub writing : Check → List ℕ → Said
@@ -49,6 +50,8 @@ verdicts =
     ∷ (writing Inconclusive (replicate 12 1) is
     words (0 ∷ 12 ∷ 73 ∷ 110 ∷ 99 ∷ 111 ∷ 110 ∷ 99 ∷ 108 ∷ 117 ∷ 115 ∷ 105 ∷ 118 ∷ 101 ∷ []))
     ∷ (writing Equiv (replicate 4 1) is words (19 ∷ 0 ∷ 1 ∷ 1 ∷ 1 ∷ 1 ∷ []))
+    ∷ (words (map writtenNumber (Bytes 5 ∷ TooShort ∷ [])) is words (0 ∷ 19 ∷ []))
+    ∷ (words (map writtenBytes (Bytes 5 ∷ TooShort ∷ [])) is words (5 ∷ 0 ∷ []))
     ∷ (shown (Value 2 3) is words (0 ∷ 2 ∷ 3 ∷ []))
     ∷ (shown (Failed Undriven) is words (1 ∷ 0 ∷ 0 ∷ []))
     ∷ (shown (Failed DontCare) is words (2 ∷ 0 ∷ 0 ∷ []))
