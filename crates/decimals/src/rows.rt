@@ -14,6 +14,8 @@ pub enum Row {
     Bad(usize),
 }
 
+// The lent places are scratch: where the answer is End or Bad they hold the words read so far, and behind those what
+// was there.
 pub fn next_row(text: &[u8], at: usize, row: &mut [u64]) -> Row
     ensures { λ r. ⌜ r ≡ rows.nextRow (now (text .entry)) at (length (now (row .entry))) ⌝ }
     ensures { λ _. ⌜ now (row .exit) ≡ rows.filled (now (text .entry)) at (now (row .entry)) ⌝ }
