@@ -9,6 +9,7 @@ use lib.Dec.{ltb, leb, eqb}
 use borrow.Author.Tests.{eqb-true, eq-eqb, ne-eqb, lt-ltb, le-ltb, le-leb, lt-leb}
 use Rattle.meaning.specs.Rules.Limits.{variableCount, mostInputs, wordsPerNode}
 use Rattle.meaning.specs.Rules.Kinds.{kindOf, mayHave}
+use Rattle.meaning.specs.Laws.NumberLaws.{all-done}
 use Rattle.meaning.specs.Laws.BoolLaws.{and-both}
 use Rattle.meaning.specs.Rules.Search.{lowest}
 use Rattle.meaning.specs.Laws.SearchLaws.{lowest-only}
@@ -24,19 +25,6 @@ use Rattle.meaning.specs.Laws.NfLaws.{Made}
 use Rattle.meaning.specs.Laws.MadeLaws.{made-no-program}
 use Rattle.meaning.specs.Laws.ListingLaws.{Every, Ordered, Listable, start, part-fits, node-words, listed-first, listed-count-word, listed-last, nth-new, one-more, listed-count, listed-kind, listed-below, listed-tree, listed-ordered, listed-every}
 use Rattle.meaning.specs.Laws.CleanLaws.{Clean, deep-made}
-
--- no node has a fault: the test is done
-pub all-done : (n : ℕ) (fault : ℕ → ℕ) → ((i : ℕ) → i < n → fault i ≡ 0) → isDone (atLowest n fault) ≡ true
-unfolding atLowest
-all-done n fault h = rw (none-found, le-ltb n n (omega arith))
-  where
-    none-found : lowest (λ i. ltb 0 (fault i)) n ≡ n
-    none-found = lowest-only (λ i. ltb 0 (fault i)) n n (record {
-      after = omega arith;
-      within = omega arith;
-      passes = λ l. absurd (omega arith);
-      before = λ j a b. le-ltb 0 (fault j) (omega (arith, h j b));
-    })
 
 module _ (n : ℕ) (few : n ≤ mostInputs) (u : Tree) (made : Made (λ v. v < n) u) where
   D : ℕ → Type 0

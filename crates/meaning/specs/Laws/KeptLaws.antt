@@ -27,7 +27,8 @@ use Rattle.meaning.specs.Rules.Calls.{separateRefusal, separation, canon
 use Rattle.meaning.specs.Laws.RefusalLaws.{then-first, then-rest, require-done, marks-below}
 use Rattle.meaning.specs.Laws.NfLaws.{Made, nf-answer}
 use Rattle.meaning.specs.Rules.Kinds.{isPlain, kindOf}
-use Rattle.meaning.specs.Laws.RootLaws.{Accepted, no-fault, root-made}
+use Rattle.meaning.specs.Laws.RootLaws.{Accepted, root-made}
+use Rattle.meaning.specs.Laws.NumberLaws.{no-fault}
 use Rattle.meaning.specs.Laws.CleanLaws.{Clean, nf-made, deep-made, deep-map}
 use Rattle.meaning.specs.Laws.ListingLaws.{Listable, listed-root}
 use Rattle.meaning.specs.Laws.CanonicalLaws.{listed-layout, listed-verification, listed-evaluability, listed-variables, listed-words, listed-some}

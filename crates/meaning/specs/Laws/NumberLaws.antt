@@ -164,6 +164,17 @@ module _ (n : ℕ) (fault : ℕ → ℕ) where
             l : lowest faulty n < n
             l = omega (arith, at, f .exists)
 
+-- a test node by node is done exactly when no node has a fault
+module _ (n : ℕ) (fault : ℕ → ℕ) where
+  none-when : Passed (atLowest n fault) ((i : ℕ) → i < n → fault i ≡ 0)
+  none-when = lowest-passed n fault {Fine = λ i. fault i ≡ 0} (λ i. (λ e. e, λ e. e))
+
+  pub no-fault : isDone (atLowest n fault) ≡ true → (i : ℕ) → i < n → fault i ≡ 0
+  no-fault h = none-when .when .0 (eqb-true (atLowest n fault .number) 0 h)
+
+  pub all-done : ((i : ℕ) → i < n → fault i ≡ 0) → isDone (atLowest n fault) ≡ true
+  all-done h = eq-eqb (atLowest n fault .number) 0 (none-when .when .1 h)
+
 -- ---- a number in a row: the test that says it stands first, stands later, or two tests say it
 module _ {r s : Refusal} {n : ℕ} where
   pub here : {a : List ℕ} {P : ℕ → Type 0} → Exactly r (suc n) P → Says s a → isIn (suc n) (0 ∷ a) ≡ false → Exactly (r then s) (suc n) P

@@ -4,17 +4,14 @@ use mathlib.Core.Path.{_≡_, refl, sym, ap, subst, _∙_}
 use mathlib.Core.List.{[], List, _∷_}
 use mathlib.Core.Bool.{Bool, true, false, cond, not, _&&_, _||_, or-true}
 use native.Mathlib.Omega.{arith}
-use native.Mathlib.Decide.{decLt}
 use lib.ListN.{length, drop, length-take, length-drop}
 use lib.Dec.{ltb, eqb}
 use borrow.Author.Tests.{eqb-true, eq-eqb, ne-eqb, leb-true, ltb-true, ltb-false, lt-ltb, le-ltb}
 use Rattle.meaning.specs.Rules.Kinds.{kindOf, mayHave, isPlain, isGate}
 use Rattle.meaning.specs.Laws.BoolLaws.{true-false, and-left, and-right, not-is-false, or-left-false, or-right-false}
-use Rattle.meaning.specs.Rules.Search.{lowest}
-use Rattle.meaning.specs.Laws.SearchLaws.{lowest-is}
 use Rattle.meaning.specs.Rules.Trees.{Tree, Forest, node, none, trees, forest, nodeCount, kindAt, firstAt, countAt, datumAt, childrenAt, treeOf, rootOf}
 use Rattle.meaning.specs.Laws.TreeLaws.{tree-at}
-use Rattle.meaning.specs.Rules.Refusals.{isDone, atLowest, every, some}
+use Rattle.meaning.specs.Rules.Refusals.{every, some}
 use Rattle.meaning.specs.Rules.Layout.{firstFits, laidOut, childrenBelow, layoutFault}
 use Rattle.meaning.specs.Rules.Reach.{markOf, reachable}
 use Rattle.meaning.specs.Rules.Verification.{wrong, wrongTree, verifyFault, isProgram}
@@ -23,20 +20,6 @@ use Rattle.meaning.specs.Rules.Canonical.{gateFault}
 use Rattle.meaning.specs.Laws.ReachLaws.{reach-child, reach-root}
 use Rattle.meaning.specs.Laws.NfLaws.{Made, aBit}
 use Rattle.meaning.specs.Laws.MadeLaws.{Sorted, aProgram, isABit, isABus, AllSorted, empty, and-then, NodeOk, sort-node}
-
--- a test node by node that is done: no node has a fault
-pub no-fault : (n : ℕ) (fault : ℕ → ℕ) → isDone (atLowest n fault) ≡ true → (i : ℕ) → i < n → fault i ≡ 0
-unfolding atLowest
-no-fault n fault h i l = go (decLt j n)
-  where
-    j : ℕ
-    j = lowest (λ i. ltb 0 (fault i)) n
-
-    go : Dec (j < n) → fault i ≡ 0
-    go (yes k) =
-        let zero-fault : fault j ≡ 0 = eqb-true (fault j) 0 (rw (lt-ltb j n k) at h) in
-        absurd (omega (arith, zero-fault, ltb-true 0 (fault j) (lowest-is (λ i. ltb 0 (fault i)) n .passes k)))
-    go (no k) = omega (arith, ltb-false 0 (fault i) (lowest-is (λ i. ltb 0 (fault i)) n .before i (omega arith) (omega arith)))
 
 cond-zero : (b : Bool) (n : ℕ) → cond b (suc n) 0 ≡ 0 → b ≡ false
 cond-zero true n h = absurd (omega arith)

@@ -4,13 +4,25 @@ use Rattle.table_words.proofs.same.Statement.{statement}
 use Rattle.table_words.proofs.same.Tie as tie
 
 returns : tie.Need-returns
-returns c = rw (ne-eqb _ _ (c .if1 .taken))
+returns c =
+    let s = c .before .before .before in
+    rw (ne-eqb (s .args .a .number) (s .args .b .number) (c .if1 .taken))
 
 returns-2 : tie.Need-returns-2
-returns-2 c = rw (eq-eqb _ _ (c .before .before .before .if1 .left), ne-eqb _ _ (c .if2 .taken))
+returns-2 c =
+    let s = c .before .before .before .before .before .before in
+    rw (
+      eq-eqb (s .args .a .number) (s .args .b .number) (c .before .before .before .if1 .left),
+      ne-eqb (s .args .a .first) (s .args .b .first) (c .if2 .taken),
+    )
 
 returns-3 : tie.Need-returns-3
-returns-3 c = rw (eq-eqb _ _ (c .before .before .before .before .before .if1 .left), eq-eqb _ _ (c .before .before .if2 .left))
+returns-3 c =
+    let s = c .before .before .before .before .before .before .before .before in
+    rw (
+      eq-eqb (s .args .a .number) (s .args .b .number) (c .before .before .before .before .before .if1 .left),
+      eq-eqb (s .args .a .first) (s .args .b .first) (c .before .before .if2 .left),
+    )
 
 pub same-spec : {M : Type 1} → statement M
 same-spec = tie.close (tie.spec returns returns-2 returns-3)

@@ -1,4 +1,6 @@
 -- `tables::eval_lut_const_input` meets its contract: each way out is one case of the definition.
+use mathlib.Core.Path.{_≡_}
+use mathlib.Core.Bool.{true, false}
 use Prim.Native.Nat.{_+_}
 use native.Mathlib.Omega.{arith}
 use borrow.Author.Tests.{lt-leb}
@@ -20,14 +22,22 @@ table-fits-requires c κs = search needs
 
 returns-2 : tie.Need-returns-2
 unfolding meant.evalLutConstInput
-returns-2 c = rw (told-no (c .before .table-fits .ensures) (c .if2 .taken))
+returns-2 c =
+    let s = c .before .before .before in
+    let fits-not : meant.tableFits (s .args .p) (s .args .msb + 1) ≡ false =
+    told-no (c .before .table-fits .ensures) (c .if2 .taken) in
+    rw fits-not
 
 half-requires : tie.Need-half-requires
 half-requires c κs = search needs
 
 returns-3 : tie.Need-returns-3
 unfolding meant.evalLutConstInput
-returns-3 c = rw (told-yes (c .before .before .table-fits .ensures) (c .before .if2 .left), c .half .ensures)
+returns-3 c =
+    let s = c .before .before .before .before in
+    let fits : meant.tableFits (s .args .p) (s .args .msb + 1) ≡ true =
+    told-yes (c .before .before .table-fits .ensures) (c .before .if2 .left) in
+    rw (fits, c .half .ensures)
 
 pub eval-lut-const-input-spec : {M : Type 1} → statement M
 eval-lut-const-input-spec =

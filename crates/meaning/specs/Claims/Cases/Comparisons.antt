@@ -37,6 +37,8 @@ comparisons =
     ∷ (comparing v0 (bus (false ∷ v0 ∷ [])) is verdict NotEquiv 0)
     ∷ (comparing (bus []) (inv (bus [])) is verdict Equiv 0)
     ∷ (comparing (bus []) false is verdict NotEquiv 0)
+    ∷ (comparing (bus []) (bus (false ∷ [])) is verdict NotEquiv 0)
+    ∷ (comparing (bus (false ∷ [])) (bus []) is verdict NotEquiv 0)
     -- a failure decides, and is not searched past; equal failures are no equal values
     ∷ (comparing (mux v0 false dc) (mux v0 true dc) is verdict Inconclusive 0)
     ∷ (comparing (inv dc) dc is verdict Inconclusive 0)
