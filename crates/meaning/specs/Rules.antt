@@ -25,6 +25,8 @@ pub mod Separation
 pub mod Verdict
 -- ---- "Truth-table routines"; "Canonical list"
 pub mod Tables
+pub mod Folding
+pub mod Listing
 pub mod Canonical
 -- ---- the whole outcome of each public call
 pub mod Calls

@@ -61,14 +61,24 @@ fn replay(text: &[u8]) -> Outcome {
     }
 }
 
+// Standard input without a case is most likely a program started without its file, so that is answered with the usage.
+fn count(cases: u64, differ: u64) {
+    if cases == 0 {
+        io::write_all(
+            STDOUT_FILENO,
+            b"no cases. usage: replay_tables < FILE, with a case of 17 decimal words to a line\n",
+        );
+        return;
+    }
+    io::print_decimal(STDOUT_FILENO, cases);
+    io::write_all(STDOUT_FILENO, b" cases, ");
+    io::print_decimal(STDOUT_FILENO, differ);
+    io::write_all(STDOUT_FILENO, b" differ\n");
+}
+
 fn report(outcome: Outcome) {
     match outcome {
-        Outcome::Finished { cases, differ } => {
-            io::print_decimal(STDOUT_FILENO, cases);
-            io::write_all(STDOUT_FILENO, b" cases, ");
-            io::print_decimal(STDOUT_FILENO, differ);
-            io::write_all(STDOUT_FILENO, b" differ\n");
-        }
+        Outcome::Finished { cases, differ } => count(cases, differ),
         Outcome::Malformed(offset) => {
             io::write_all(STDOUT_FILENO, b"malformed input at offset ");
             io::print_decimal(STDOUT_FILENO, offset as u64);

@@ -17,7 +17,7 @@ use Rattle.meaning.specs.Rules.Reach.{reachable}
 use Rattle.meaning.specs.Rules.Assignments.{inputs}
 use Rattle.meaning.specs.Rules.Pairs.{pairs}
 use Rattle.meaning.specs.Rules.Canonical.{canonicalNodes, canonicalPool}
-use Rattle.meaning.specs.Rules.Calls.{evaluateRefusal, evaluation, evaluate, compare, separate, canonicalRefusal, canonical, canonicalise}
+use Rattle.meaning.specs.Rules.Calls.{evaluateRefusal, evaluation, evaluate, compare, canonicalRefusal, canonical, canonicalise, separate}
 use Rattle.meaning.specs.Claims.Terms.{EverywhereEqual, Decided, NoCrossing, Crosses}
 use Rattle.meaning.specs.Laws.RefusalLaws.{refused-output, work-kept, work-cleared}
 use Rattle.meaning.specs.Laws.ComparisonLaws.{equiv-exactly, otherwise-lowest, compared-trees, few-inputs}

@@ -10,11 +10,12 @@ use Rattle.meaning.specs.declared.Check.{Check}
 use Rattle.meaning.specs.declared.Judgement.{Judgement}
 use Rattle.meaning.specs.declared.Refusal.{Refusal}
 use Rattle.meaning.specs.Rules.Kinds.{constWord, programWord, dontCareWord, variableWord, busWord, cycleWord}
-use Rattle.meaning.specs.Rules.Trees.{Tree, node, none, _◂_, rootOf}
+use Rattle.meaning.specs.Rules.Trees.{Tree, node, none, _◂_, rootOf, forestOf}
 use Rattle.meaning.specs.Rules.Answers.{answer}
 use Rattle.meaning.specs.Rules.Assignments.{given}
 use Rattle.meaning.specs.Rules.Tables.{TableAnswer, says}
-use Rattle.meaning.specs.Rules.Canonical.{forestOf, listedNodes, listedPool, canonicalNodes, canonicalPool}
+use Rattle.meaning.specs.Rules.Listing.{listedNodes, listedPool}
+use Rattle.meaning.specs.Rules.Canonical.{canonicalNodes, canonicalPool}
 use Rattle.meaning.specs.Rules.Calls.{verifyRefusal, evaluateRefusal, comparison, separation, canonicalRefusal}
 
 -- ---- terms, as document 01 writes them: And(v0, v1), Mux(true, v0, v1), ..

@@ -1,7 +1,7 @@
 -- The examples that document 01 marks * ("Panel bench examples"), in its order, as one table under one claim.
 use Prim.Native.Nat.{ℕ}
-use mathlib.Core.Path.{_≡_, refl}
-use mathlib.Core.List.{List, [], _∷_, map, _++_}
+use mathlib.Core.Path.{refl}
+use mathlib.Core.List.{List, [], _∷_, _++_}
 use Rattle.meaning.specs.declared.Failure.the-variants.{DontCare}
 use Rattle.meaning.specs.declared.Answer.the-variants.{Value, Failed}
 use Rattle.meaning.specs.declared.Check.the-variants.{Equiv, NotEquiv, Inconclusive}
@@ -17,7 +17,9 @@ use Rattle.meaning.specs.Rules.Evaluable.{shapeFault, evaluability, soun
 use Rattle.meaning.specs.Rules.Assignments.{isAssignment, inputs}
 use Rattle.meaning.specs.Rules.Comparison.{decidingIndex, compareTrees}
 use Rattle.meaning.specs.Rules.Separation.{variablesBelow, inBounds, crossingIndex, separateTree}
-use Rattle.meaning.specs.Rules.Canonical.{gateFault, gates, fold, subtrees, listedNodes, listedPool, canonicalNodes, canonicalPool}
+use Rattle.meaning.specs.Rules.Canonical.{gateFault, gates, canonicalNodes, canonicalPool}
+use Rattle.meaning.specs.Rules.Folding.{fold}
+use Rattle.meaning.specs.Rules.Listing.{subtrees, listedNodes, listedPool}
 use Rattle.meaning.specs.Rules.Calls.{evaluateRefusal, compareRefusal, comparison, separateRefusal, separation, canonicalRefusal}
 use Rattle.meaning.specs.Claims.Drawn.{Line, _is_, false, true, dc, var, v0, v1, nor, mux, and, xor, bus, answers, verdict, judgement, list, table, gives, pair, smaller, none-left, evaluating, comparing, separating, canonicalising, Agree}
 

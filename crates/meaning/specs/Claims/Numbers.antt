@@ -24,7 +24,7 @@ use Rattle.meaning.specs.Rules.Pairs.{pairWords}
 use Rattle.meaning.specs.Rules.Separation.{bounded, separateTree, separationRefused, inBounds}
 use Rattle.meaning.specs.Rules.Comparison.{fewInputs, compareTrees, comparisonRefused}
 use Rattle.meaning.specs.Rules.Canonical.{gates}
-use Rattle.meaning.specs.Rules.Calls.{verifyRefusal, verify, assigned, fitsPairs, evaluateRefusal, evaluation, evaluate, compareRefusal, comparison, compare, separateRefusal, separation, separate, fitsLists, canonicalRefusal, canonical, canonicalise}
+use Rattle.meaning.specs.Rules.Calls.{verifyRefusal, verify, assigned, fitsPairs, evaluateRefusal, evaluation, evaluate, compareRefusal, comparison, compare, separateRefusal, separation, fitsLists, canonicalRefusal, canonical, canonicalise, separate}
 use Rattle.meaning.specs.Claims.Terms.{NoNode, Exactly, Passed, Says}
 use Rattle.meaning.specs.Claims.Column.{Misaligned, OverLimit, Sized, KindAbove, BreaksLayout, ChildNotBelow, WellLaid, Unverified, Verifies, Empty, Rooted, Misfit, Fits, WideGate, NoWideGate, All, Lowest, Sound, ManyInputs, OutOfBounds, InBounds, NoAssignment, IsAssignment, NoRoom, Room}
 use Rattle.meaning.specs.Laws.NumberLaws.{then-says, require-says, late-apart, here, skip, either, both-passed, require-zero, then-zero, carries}

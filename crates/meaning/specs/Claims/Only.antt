@@ -25,7 +25,7 @@ use Rattle.meaning.specs.declared.Cofactors.{Cofactors}
 use Rattle.meaning.specs.declared.Cofactors.the-variants as cofactors
 use Rattle.meaning.specs.Rules.Tables.{TableAnswer, lutBitSays, bitVectorSays, removedSays, tableProgramSays, cofactorsSay, evalLut, evalLutBv, toBitvec, removeLsbVar, evalLutConstInput, cofactorsInMsb, swapPos}
 use Rattle.meaning.specs.Rules.Verdict.{Displayed, displayed, display, writtenNumber, writtenBytes}
-use Rattle.meaning.specs.Rules.Calls.{Verified, verified, verify, Evaluated, evaluated, evaluate, Compared, compared, compare, Judged, judged, separate, Canonicalised, canonicalised, canonicalise}
+use Rattle.meaning.specs.Rules.Calls.{Verified, verified, verify, Evaluated, evaluated, evaluate, Compared, compared, compare, Judged, judged, Canonicalised, canonicalised, canonicalise, separate}
 
 -- ---- the calls over node lists
 pub verify-only : (ns ps work : List ℕ) {r r′ : Refusal} {w w′ : List ℕ}

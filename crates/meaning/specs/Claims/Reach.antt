@@ -1,6 +1,6 @@
 -- The marks are what is meant: a node counts exactly when a path leads to it from the root, and its mark tells the least
 -- number of Cycle nodes on any such path (document 01, "Verification"). And the tests of equality are equality.
-use Prim.Native.Nat.{ℕ, suc, _-_, _≤_, _<_}
+use Prim.Native.Nat.{ℕ, _-_, _≤_, _<_}
 use mathlib.Core.Path.{_≡_}
 use mathlib.Core.Logic.{_↔_}
 use mathlib.Core.List.{List}
@@ -13,7 +13,7 @@ use Rattle.meaning.specs.Rules.Reach.{PathTo, markOf, reachable}
 use Rattle.meaning.specs.Rules.Comparison.{sameAnswer}
 use Rattle.meaning.specs.Laws.TreeLaws.{same-eq, eq-same}
 use Rattle.meaning.specs.Laws.AssignmentLaws.{sameAnswer-eq, eq-sameAnswer}
-use Rattle.meaning.specs.Laws.PathLaws.{mark-path, mark-least, path-small}
+use Rattle.meaning.specs.Laws.PathLaws.{mark-path, mark-least}
 
 module _ (ns ps : List ℕ) where
   -- "reachable from the root, itself included"

@@ -13,14 +13,14 @@ use Rattle.meaning.specs.Laws.NumberLaws.{all-done}
 use Rattle.meaning.specs.Laws.BoolLaws.{and-both}
 use Rattle.meaning.specs.Rules.Search.{lowest}
 use Rattle.meaning.specs.Laws.SearchLaws.{lowest-only}
-use Rattle.meaning.specs.Rules.Trees.{Tree, kindWord, datum, children, trees, nodeCount, kindAt, firstAt, countAt, treeOf}
+use Rattle.meaning.specs.Rules.Trees.{Tree, kindWord, datum, children, trees, nodeCount, kindAt, firstAt, countAt, treeOf, nthTree}
 use Rattle.meaning.specs.Rules.Refusals.{isDone, atLowest}
 use Rattle.meaning.specs.Rules.Layout.{firstFits, laidOut, layoutFault, layout}
 use Rattle.meaning.specs.Rules.Reach.{markOf, reachable}
 use Rattle.meaning.specs.Rules.Verification.{verifyFault, verification, isProgram}
 use Rattle.meaning.specs.Rules.Evaluable.{shapeFault, evaluability}
 use Rattle.meaning.specs.Rules.Separation.{outside, variablesBelow}
-use Rattle.meaning.specs.Rules.Canonical.{nthTree, visitAll, subtrees, nodeWords, poolWords, listedNodes, listedPool, countWord, firstWord}
+use Rattle.meaning.specs.Rules.Listing.{visitAll, subtrees, nodeWords, poolWords, listedNodes, listedPool, countWord, firstWord}
 use Rattle.meaning.specs.Laws.NfLaws.{Made}
 use Rattle.meaning.specs.Laws.MadeLaws.{made-no-program}
 use Rattle.meaning.specs.Laws.ListingLaws.{Every, Ordered, Listable, start, part-fits, node-words, listed-first, listed-count-word, listed-last, nth-new, one-more, listed-count, listed-kind, listed-below, listed-tree, listed-ordered, listed-every}

@@ -12,17 +12,17 @@ use borrow.Author.Tests.{lt-ltb, le-ltb, le-leb, lt-leb}
 use Rattle.meaning.specs.Rules.Limits.{mostOperands, widestBus}
 use Rattle.meaning.specs.Rules.Kinds.{kindOf, mayHave}
 use Rattle.meaning.specs.Rules.Search.{lowest}
-use Rattle.meaning.specs.Rules.Trees.{Tree, Forest, node, none, _◂_, kindWord, datum, children, trees}
+use Rattle.meaning.specs.Rules.Trees.{Tree, Forest, node, none, _◂_, kindWord, datum, children, trees, forestOf, nthTree}
 use Rattle.meaning.specs.Rules.Tables.{cofactor, ignores}
 use Rattle.meaning.specs.Laws.TableLaws.{cofactor-lt}
 use Rattle.meaning.specs.Rules.Refusals.{some, every}
 use Rattle.meaning.specs.Rules.Verification.{isProgram, isBus, lutWrong, wrongTree}
 use Rattle.meaning.specs.Rules.Evaluable.{isBit, isLogic, shape, shapes, fitsTree}
-use Rattle.meaning.specs.Rules.Canonical
-use Rattle.meaning.specs.Rules.Canonical.{forestOf, constant, isConstant, nthTree, without, foldOne, fold, folded, nf, nfAll}
+use Rattle.meaning.specs.Rules.Folding.{constant, isConstant, without, foldOne, fold, folded, nf, nfAll}
 use Rattle.meaning.specs.Laws.NfLaws.{BitTree, BitForest, Made, const, var, nor, mux, and, xor, inv, lut, cycle, nothing, more, aBit, aBus, aCycle}
 use Rattle.meaning.specs.Laws.ListingLaws.{Deep, DeepAll, Listable}
 use Rattle.meaning.specs.Laws.MadeLaws.{bit-shape, bit-no-program}
+use Rattle.meaning.specs.Rules.Folding
 
 pub data AllBit (D : ℕ → Type 0) : List Tree → Type 0 where
   no-more : AllBit D []
@@ -60,7 +60,7 @@ module _ (D : ℕ → Type 0) where
   to-forest (one-bit b a) = more b (to-forest a)
 
   lut-made : (p k : ℕ) {ts : List Tree} → k ≤ mostOperands → (k < mostOperands → p < 2 ^ (2 ^ k)) → AllBit D ts → length ts ≡ k
-      → BitTree D (Canonical.lut p ts)
+      → BitTree D (Folding.lut p ts)
   lut-made p k {ts} l h a e = lut l h (subst (λ (n : ℕ). BitForest D (forestOf ts) n) e (to-forest a))
 
   cond-made : (b : Bool) {t u : Tree} → BitTree D t → BitTree D u → BitTree D (cond b t u)

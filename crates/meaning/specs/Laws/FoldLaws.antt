@@ -11,12 +11,12 @@ use Rattle.meaning.specs.declared.Answer.the-variants.{Value}
 use Rattle.meaning.specs.Rules.Limits.{mostOperands}
 use Rattle.meaning.specs.Rules.Search.{lowest}
 use Rattle.meaning.specs.Laws.SearchLaws.{lowest-is}
-use Rattle.meaning.specs.Rules.Trees.{Tree, node, datum}
+use Rattle.meaning.specs.Rules.Trees.{Tree, node, datum, forestOf, nthTree}
 use Rattle.meaning.specs.Rules.Answers.{Assignment, answer, answers, valueOf, operands, rowBit}
 use Rattle.meaning.specs.Rules.Words.{bitAt}
 use Rattle.meaning.specs.Rules.Tables.{insertBit, cofactor, ignores, rowFrom}
 use Rattle.meaning.specs.Laws.TableLaws.{AreBits, nil, bit, butOne, bits-at, row-lt, row-insert, cofactor-row, cofactor-lt, ignores-row}
-use Rattle.meaning.specs.Rules.Canonical.{forestOf, lut, isConstant, nthTree, without, foldOne, fold}
+use Rattle.meaning.specs.Rules.Folding.{lut, isConstant, without, foldOne, fold}
 
 -- the trees ts answer with the bits bs
 pub data Answering (α : Assignment) : List Tree → List ℕ → Type 0 where

@@ -20,7 +20,8 @@ use Rattle.meaning.specs.Rules.Assignments.{upto, Assigns}
 use Rattle.meaning.specs.Rules.Layout.{sizes, workFor, layout, layoutFault}
 use Rattle.meaning.specs.Rules.Verification.{verification, verifyFault}
 use Rattle.meaning.specs.Rules.Evaluable.{evaluability, shapeFault, sound}
-use Rattle.meaning.specs.Rules.Canonical.{gateFault, canonicalNodes, canonicalPool, nf, gates}
+use Rattle.meaning.specs.Rules.Canonical.{gateFault, canonicalNodes, canonicalPool, gates}
+use Rattle.meaning.specs.Rules.Folding.{nf}
 use Rattle.meaning.specs.Rules.Reach.{reachable, markOf}
 use Rattle.meaning.specs.Rules.Separation.{outside, variablesBelow, inBounds, separateTree}
 use Rattle.meaning.specs.Rules.Calls.{separateRefusal, separation, canonicalRefusal, fitsLists}

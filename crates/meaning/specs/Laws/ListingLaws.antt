@@ -15,10 +15,10 @@ use Rattle.meaning.specs.Laws.BoolLaws.{true-false, and-both}
 use Rattle.meaning.specs.Laws.SearchLaws.{IsLowest, lowest-is}
 use Rattle.meaning.specs.Rules.Limits.{wordsPerNode}
 use Rattle.meaning.specs.Rules.Kinds.{programWord, hasChildren}
-use Rattle.meaning.specs.Rules.Trees.{Tree, Forest, node, none, _◂_, same, kindWord, datum, children, trees, forest, stump, nodeCount, kindAt, datumAt, childrenAt, treeOf, rootOf, countAt, firstAt}
+use Rattle.meaning.specs.Rules.Trees.{Tree, Forest, node, none, _◂_, same, kindWord, datum, children, trees, forest, stump, nodeCount, kindAt, datumAt, childrenAt, treeOf, rootOf, countAt, firstAt, nthTree}
 use Rattle.meaning.specs.Laws.TreeLaws.{same-eq, same-refl, tree-at}
 use Rattle.meaning.specs.Rules.Refusals.{some, every}
-use Rattle.meaning.specs.Rules.Canonical.{nthTree, keep, visit, visitAll, subtrees, numberIn, childNumbers, nodeAt, nodeWords, poolWords, listedNodes, listedPool, countWord, firstWord}
+use Rattle.meaning.specs.Rules.Listing.{keep, visit, visitAll, subtrees, numberIn, childNumbers, nodeAt, nodeWords, poolWords, listedNodes, listedPool, countWord, firstWord}
 
 -- ---- the words of node i
 pub node-words : (at : ℕ) (ts : List Tree) → length (nodeWords at ts) ≡ length ts * wordsPerNode

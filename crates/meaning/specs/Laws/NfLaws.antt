@@ -8,11 +8,11 @@ use borrow.Author.Tests.{lt-ltb}
 use Rattle.meaning.specs.declared.Answer.{Answer}
 use Rattle.meaning.specs.declared.Answer.the-variants.{Value}
 use Rattle.meaning.specs.Rules.Limits.{mostOperands, widestBus}
-use Rattle.meaning.specs.Rules.Trees.{Tree, Forest, node, none, _◂_, trees}
+use Rattle.meaning.specs.Rules.Trees.{Tree, Forest, node, none, _◂_, trees, forestOf}
 use Rattle.meaning.specs.Rules.Answers.{Assignment, answer, answers, blank, driven, norOf, andOf, xorOf, notOf, muxOf, lutOf, busOf}
 use Rattle.meaning.specs.Rules.Words.{bitAt}
 use Rattle.meaning.specs.Rules.Tables.{rowFrom}
-use Rattle.meaning.specs.Rules.Canonical.{forestOf, folded, nf, nfAll}
+use Rattle.meaning.specs.Rules.Folding.{folded, nf, nfAll}
 use Rattle.meaning.specs.Laws.WordLaws.{bit-lt}
 use Rattle.meaning.specs.Laws.FoldLaws.{Answering, nobody, with, answering-length, lut-answer, fold-answer}
 

@@ -10,10 +10,10 @@ use borrow.Author.Tests.{eqb-true, ltb-true, eqb-false, ne-eqb}
 use Rattle.meaning.specs.declared.Refusal.{Refusal}
 use Rattle.meaning.specs.Laws.BoolLaws.{and-right}
 use Rattle.meaning.specs.Rules.Limits.{mostInputs}
-use lib.ListN.{length, replicate}
 use Rattle.meaning.specs.Rules.Lent.{outputAfter, cleared}
-use Rattle.meaning.specs.Rules.Refusals.{isDone, _then_, require, leavesWork, workAfter}
 use Rattle.meaning.specs.Rules.Separation.{variablesBelow, inBounds}
+use Rattle.meaning.specs.Rules.Refusals.{isDone, _then_, require, leavesWork, workAfter}
+use lib.ListN.{length, replicate}
 
 pub then-first : (r s : Refusal) → isDone (r then s) ≡ true → isDone r ≡ true
 then-first r s h = go (isDone r) refl

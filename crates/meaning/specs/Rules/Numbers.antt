@@ -2,8 +2,8 @@
 -- defined where the comment says, and claimed in Claims/Numbers.
 use Prim.Native.Nat.{ℕ}
 
-abbrev pub isDoneNumber : ℕ
-isDoneNumber = 0
+abbrev pub doneNumber : ℕ
+doneNumber = 0
 
 -- node words are not a multiple of three: Rules/Layout, `sizes`
 abbrev pub notAligned : ℕ

@@ -4,19 +4,19 @@ use mathlib.Core.List.{List, [], _∷_}
 use mathlib.Core.Bool.{Bool, true, false, cond, _&&_, _||_}
 use lib.Dec.{ltb, eqb}
 use Rattle.meaning.specs.declared.Refusal.{Refusal}
-use Rattle.meaning.specs.Rules.Numbers.{isDoneNumber, notAligned, overLimit, littleWork}
+use Rattle.meaning.specs.Rules.Numbers.{doneNumber, notAligned, overLimit, littleWork}
 use Rattle.meaning.specs.Rules.Search.{lowest}
 use Rattle.meaning.specs.Rules.Lent.{cleared}
 
 abbrev pub done : Refusal
-done = record { number = isDoneNumber; node = 0 }
+done = record { number = doneNumber; node = 0 }
 
 -- "A refusal gives its number and .. the lowest faulty node, else 0"
 abbrev pub refuse : ℕ → ℕ → Refusal
 refuse number i = record { number = number; node = i }
 
 abbrev pub isDone : Refusal → Bool
-isDone r = eqb (r .number) isDoneNumber
+isDone r = eqb (r .number) doneNumber
 
 -- the first refusal in order
 infixr 50 _then_

@@ -15,7 +15,7 @@ use Rattle.meaning.specs.declared.TableProgram.the-variants as tableProg
 use Rattle.meaning.specs.declared.Cofactors.{Cofactors}
 use Rattle.meaning.specs.declared.Cofactors.the-variants as cofactors
 use Rattle.meaning.specs.Rules.Limits.{mostOperands}
-use Rattle.meaning.specs.Rules.Numbers.{isDoneNumber, badTable}
+use Rattle.meaning.specs.Rules.Numbers.{doneNumber, badTable}
 use Rattle.meaning.specs.Rules.Words.{bitAt, wordFits}
 use Rattle.meaning.specs.Rules.Search.{lowest}
 
@@ -27,7 +27,7 @@ pub record TableAnswer : Type 0 where
   pub second : ℕ
 
 abbrev pub says : ℕ → ℕ → TableAnswer
-says x y = record { number = isDoneNumber; first = x; second = y }
+says x y = record { number = doneNumber; first = x; second = y }
 
 abbrev pub outOfRange : TableAnswer
 outOfRange = record { number = badTable; first = 0; second = 0 }

@@ -46,6 +46,10 @@ abbrev pub trees : Forest → List Tree
 trees none = []
 trees (t ◂ ts) = t ∷ trees ts
 
+abbrev pub forestOf : List Tree → Forest
+forestOf [] = none
+forestOf (t ∷ ts) = t ◂ forestOf ts
+
 -- ---- the words of a node: kind, first, count, and zeros where a node has more of them
 abbrev pub nodeOf : ℕ → ℕ → ℕ → List ℕ
 nodeOf kind first count = kind ∷ first ∷ count ∷ replicate (wordsPerNode - 3) 0
@@ -77,6 +81,9 @@ childrenAt ns ps i = cond (hasChildren (kindAt ns i)) (take (countAt ns i) (drop
 -- `stump` stands for a child that is not numbered below its node; number 5 refuses every list that has one.
 abbrev pub stump : Tree
 stump = node (suc cycleWord) 0 none
+
+abbrev pub nthTree : List Tree → ℕ → Tree
+nthTree ts i = getD ts i stump
 
 unfoldable pub treesOf : List ℕ → List ℕ → ℕ → List Tree
 treesOf ns ps zero = []

@@ -10,7 +10,7 @@ use Rattle.meaning.specs.declared.Decision.{Decision}
 use Rattle.meaning.specs.declared.Decision.the-variants.{Yes, No, Undecided}
 use Rattle.meaning.specs.declared.Written.{Written}
 use Rattle.meaning.specs.declared.Written.the-variants.{Bytes, TooShort}
-use Rattle.meaning.specs.Rules.Numbers.{isDoneNumber, shortOutput}
+use Rattle.meaning.specs.Rules.Numbers.{doneNumber, shortOutput}
 use Rattle.meaning.specs.Rules.Lent.{outputAfter}
 
 -- the number that stands for each verdict where answers are words
@@ -57,7 +57,7 @@ nameOf Inconclusive = 73 ∷ 110 ∷ 99 ∷ 111 ∷ 110 ∷ 99 ∷ 108 ∷ 117 �
 
 -- the number that writing answers with, and how many bytes it wrote
 abbrev pub writtenNumber : Written → ℕ
-writtenNumber (Bytes n) = isDoneNumber
+writtenNumber (Bytes n) = doneNumber
 writtenNumber TooShort = shortOutput
 
 abbrev pub writtenBytes : Written → ℕ
@@ -74,7 +74,7 @@ abbrev pub displayed : Written → List ℕ → Displayed
 displayed r out = record { number = writtenNumber r; bytes = writtenBytes r; out = out }
 
 abbrev pub displayOf : Bool → List ℕ → List ℕ → Displayed
-displayOf true name old = record { number = isDoneNumber; bytes = length name; out = outputAfter true name old }
+displayOf true name old = record { number = doneNumber; bytes = length name; out = outputAfter true name old }
 displayOf false name old = record { number = shortOutput; bytes = 0; out = outputAfter false name old }
 
 -- too short a slice: number 19, and nothing written

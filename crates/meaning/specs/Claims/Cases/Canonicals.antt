@@ -1,4 +1,4 @@
--- Cases of Rules/Canonical: the canonical list, numbers 14 and 19.
+-- Cases of Rules/Folding, Rules/Listing, Rules/Canonical: the canonical list, numbers 14 and 19.
 use Prim.Native.Nat.{ℕ, _+_, _*_, _^_, _-_}
 use mathlib.Core.Path.{refl}
 use mathlib.Core.List.{List, [], _∷_, _++_}
@@ -11,7 +11,9 @@ use Rattle.meaning.specs.Rules.Reach.{marks}
 use Rattle.meaning.specs.Rules.Verification.{verifyFault, verification}
 use Rattle.meaning.specs.Rules.Evaluable.{shapeFault, evaluability, sound}
 use Rattle.meaning.specs.Rules.Tables.{cofactor, ignores}
-use Rattle.meaning.specs.Rules.Canonical.{gateFault, gates, fold, subtrees, lut, listedNodes, listedPool, canonicalNodes, canonicalPool}
+use Rattle.meaning.specs.Rules.Canonical.{gateFault, gates, canonicalNodes, canonicalPool}
+use Rattle.meaning.specs.Rules.Folding.{fold, lut}
+use Rattle.meaning.specs.Rules.Listing.{subtrees, listedNodes, listedPool}
 use Rattle.meaning.specs.Rules.Calls.{canonicalRefusal}
 use Rattle.meaning.specs.Claims.Drawn.{Said, Line, _is_, false, true, dc, v0, v1, v2, nor, mux, and, xor, inv, bus, reg, arg, cycle, list, refused, done, Agree, numbered, canonicalising}
 

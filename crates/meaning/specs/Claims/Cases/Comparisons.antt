@@ -13,7 +13,7 @@ use Rattle.meaning.specs.Rules.Verification.{verifyFault, verification}
 use Rattle.meaning.specs.Rules.Evaluable.{shapeFault, evaluability, sound}
 use Rattle.meaning.specs.Rules.Assignments.{inputs}
 use Rattle.meaning.specs.Rules.Comparison.{fewInputs, decidingIndex, compareTrees}
-use Rattle.meaning.specs.Rules.Canonical.{subtrees, listedNodes, listedPool}
+use Rattle.meaning.specs.Rules.Listing.{subtrees, listedNodes, listedPool}
 use Rattle.meaning.specs.Rules.Calls.{compareRefusal, comparison}
 use Rattle.meaning.specs.Claims.Drawn.{Line, _is_, false, true, dc, var, v0, v1, mux, and, xor, inv, bus, reg, verdict, refused, done, Agree, numbered, comparing}
 

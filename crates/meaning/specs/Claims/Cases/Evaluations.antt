@@ -14,7 +14,8 @@ use Rattle.meaning.specs.Rules.Reach.{marks}
 use Rattle.meaning.specs.Rules.Verification.{verifyFault, verification}
 use Rattle.meaning.specs.Rules.Evaluable.{shapeFault, evaluability, sound}
 use Rattle.meaning.specs.Rules.Assignments.{isAssignment}
-use Rattle.meaning.specs.Rules.Canonical.{subtrees, lut, listedNodes, listedPool}
+use Rattle.meaning.specs.Rules.Listing.{subtrees, listedNodes, listedPool}
+use Rattle.meaning.specs.Rules.Folding.{lut}
 use Rattle.meaning.specs.Rules.Calls.{evaluateRefusal}
 use Rattle.meaning.specs.Claims.Drawn.{Said, Line, _is_, false, true, dc, var, v0, v1, program, nor, mux, and, xor, inv, bus, reg, arg, cycle, answers, refused, Agree, evaluating}
 

@@ -11,7 +11,7 @@ use Rattle.meaning.specs.Rules.Layout.{sizes, layoutFault, layout}
 use Rattle.meaning.specs.Rules.Reach.{marks}
 use Rattle.meaning.specs.Rules.Verification.{verifyFault, verification}
 use Rattle.meaning.specs.Rules.Assignments.{select}
-use Rattle.meaning.specs.Rules.Canonical.{subtrees, listedNodes, listedPool}
+use Rattle.meaning.specs.Rules.Listing.{subtrees, listedNodes, listedPool}
 use Rattle.meaning.specs.Rules.Calls.{verifyRefusal}
 use Rattle.meaning.specs.Claims.Drawn.{Said, Line, _is_, v0, v1, and, refused, words, done, Agree, numbered, half}
 

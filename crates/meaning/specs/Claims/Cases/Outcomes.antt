@@ -5,11 +5,12 @@ use mathlib.Core.List.{List, [], _∷_, _++_, map}
 use mathlib.Core.Bool.{cond}
 use lib.ListN.{replicate}
 use lib.Dec.{eqb}
+use Rattle.meaning.specs.Rules.Lent.{cleared}
 use Rattle.meaning.specs.declared.Answer.{Answer}
 use Rattle.meaning.specs.Rules.Limits.{mostPool, workPerNode, workPerPool, wordsPerNode}
 use Rattle.meaning.specs.Rules.Trees.{Tree, node, nodeOf, treesOf, treeOf, rootOf, datumAt, childrenAt}
 use Rattle.meaning.specs.Rules.Search.{lowest}
-use Rattle.meaning.specs.Rules.Lent.{cleared}
+use Rattle.meaning.specs.Rules.Separation.{judgementNumber, variablesBelow, inBounds, crossingIndex, separateTree}
 use Rattle.meaning.specs.Rules.Refusals.{atLowest, every, workAfter}
 use Rattle.meaning.specs.Rules.Layout.{sizes, layoutFault, layout}
 use Rattle.meaning.specs.Rules.Reach.{marks}
@@ -19,11 +20,12 @@ use Rattle.meaning.specs.Rules.Assignments.{isAssignment, inputs}
 use Rattle.meaning.specs.Rules.Answers.{stateOf, answerWidth, valueOf}
 use Rattle.meaning.specs.Rules.Pairs.{stateAt, valueAt, pairs}
 use Rattle.meaning.specs.Rules.Comparison.{decidingIndex, compareTrees}
-use Rattle.meaning.specs.Rules.Separation.{judgementNumber, variablesBelow, inBounds, crossingIndex, separateTree}
 use Rattle.meaning.specs.Rules.Verdict.{checkNumber}
 use Rattle.meaning.specs.Rules.Tables.{cofactor, ignores}
-use Rattle.meaning.specs.Rules.Canonical.{gateFault, gates, fold, subtrees, listedNodes, listedPool, canonicalNodes, canonicalPool}
-use Rattle.meaning.specs.Rules.Calls.{verifyRefusal, verify, evaluateRefusal, evaluation, evaluate, compareRefusal, comparison, compare, separateRefusal, separation, separate, canonicalRefusal, canonical, canonicalise}
+use Rattle.meaning.specs.Rules.Canonical.{gateFault, gates, canonicalNodes, canonicalPool}
+use Rattle.meaning.specs.Rules.Folding.{fold}
+use Rattle.meaning.specs.Rules.Listing.{subtrees, listedNodes, listedPool}
+use Rattle.meaning.specs.Rules.Calls.{verifyRefusal, verify, evaluateRefusal, evaluation, evaluate, compareRefusal, comparison, compare, separateRefusal, separation, canonicalRefusal, canonical, canonicalise, separate}
 use Rattle.meaning.specs.Claims.Drawn.{true, dc, v0, v1, program, mux, and, inv, verdict, judgement}
 
 -- work space of ones: three words more than a list of n nodes and p pool entries asks

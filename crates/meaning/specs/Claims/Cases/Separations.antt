@@ -10,7 +10,7 @@ use Rattle.meaning.specs.Rules.Reach.{marks}
 use Rattle.meaning.specs.Rules.Verification.{verifyFault, verification}
 use Rattle.meaning.specs.Rules.Evaluable.{shapeFault, evaluability, sound}
 use Rattle.meaning.specs.Rules.Separation.{variablesBelow, inBounds, crossingIndex, separateTree}
-use Rattle.meaning.specs.Rules.Canonical.{subtrees, listedNodes, listedPool}
+use Rattle.meaning.specs.Rules.Listing.{subtrees, listedNodes, listedPool}
 use Rattle.meaning.specs.Rules.Calls.{separateRefusal, separation}
 use Rattle.meaning.specs.Claims.Drawn.{Line, _is_, false, dc, v0, v1, v2, program, mux, and, xor, bus, reg, judgement, refused, done, Agree, numbered, separating}
 

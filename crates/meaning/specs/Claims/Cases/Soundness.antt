@@ -7,10 +7,11 @@ use Rattle.meaning.specs.Rules.Refusals.{atLowest}
 use Rattle.meaning.specs.Rules.Layout.{layoutFault, layout}
 use Rattle.meaning.specs.Rules.Reach.{marks}
 use Rattle.meaning.specs.Rules.Verification.{verifyFault, verification}
-use Rattle.meaning.specs.Rules.Evaluable as shape
 use Rattle.meaning.specs.Rules.Evaluable.{shapeFault, evaluability, sound}
-use Rattle.meaning.specs.Rules.Canonical.{subtrees, lut, listedNodes, listedPool}
+use Rattle.meaning.specs.Rules.Listing.{subtrees, listedNodes, listedPool}
+use Rattle.meaning.specs.Rules.Folding.{lut}
 use Rattle.meaning.specs.Claims.Drawn.{Said, Line, _is_, false, dc, v0, v1, program, nor, mux, and, xor, inv, bus, reg, arg, cycle, refused, words, done, Agree, numbered}
+use Rattle.meaning.specs.Rules.Evaluable as shape
 
 -- numbers 3 to 8 of a term's list
 unfoldable pub sounding : Tree → Said

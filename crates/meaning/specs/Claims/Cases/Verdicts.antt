@@ -16,9 +16,9 @@ use Rattle.meaning.specs.Rules.Kinds.{kindOf, isPlain}
 use Rattle.meaning.specs.Rules.Assignments.{select}
 use Rattle.meaning.specs.Rules.Answers.{stateOf, answerWidth, valueOf}
 use Rattle.meaning.specs.Rules.Separation.{judgementNumber}
-use Rattle.meaning.specs.declared.Written.the-variants.{Bytes, TooShort}
 use Rattle.meaning.specs.Rules.Verdict.{writtenNumber, writtenBytes, checkNumber, isEquiv, isNotEquiv, isInconclusive, isConclusive, decided, decisionNumber, display}
 use Rattle.meaning.specs.Claims.Drawn.{Said, Line, _is_, false, true, words, test, Agree}
+use Rattle.meaning.specs.declared.Written.the-variants.{Bytes, TooShort}
 
 unfoldable pub writing : Check → List ℕ → Said
 writing c out = let d = display c out in words (d .number ∷ d .bytes ∷ d .out)

@@ -9,7 +9,8 @@ use Rattle.meaning.specs.Rules.Refusals.{atLowest}
 use Rattle.meaning.specs.Rules.Layout.{sizes, layoutFault, layout}
 use Rattle.meaning.specs.Rules.Reach.{marks}
 use Rattle.meaning.specs.Rules.Verification.{verifyFault, verification}
-use Rattle.meaning.specs.Rules.Canonical.{subtrees, lut, listedNodes, listedPool}
+use Rattle.meaning.specs.Rules.Listing.{subtrees, listedNodes, listedPool}
+use Rattle.meaning.specs.Rules.Folding.{lut}
 use Rattle.meaning.specs.Rules.Calls.{verifyRefusal}
 use Rattle.meaning.specs.Claims.Drawn.{Line, _is_, v0, program, nor, mux, and, xor, inv, bus, reg, arg, cycle, refused, done, Agree, numbered, all-ones, half, verifying}
 
