@@ -14,6 +14,8 @@ pub mod TestLaws
 pub mod NumberLaws
 pub mod ColumnLaws
 pub mod RangeLaws
+-- ---- what a truth-table routine or the verdict says tells its answer
+pub mod AnswerLaws
 -- ---- reachability: the marks are the least Cycle depth; the inputs are the reachable variables
 pub mod ReachLaws
 pub mod PathLaws

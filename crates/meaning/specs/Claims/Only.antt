@@ -1,30 +1,24 @@
 -- "Prove that no second outcome satisfies that statement": for each public routine, two outcomes that both meet its
 -- contract are the same (document 01, "What the contracts owe").
 use Prim.Native.Nat.{ℕ}
-use mathlib.Core.Path.{_≡_, refl, sym, ap, _∙_}
+use mathlib.Core.Path.{_≡_, sym, ap, _∙_}
 use mathlib.Core.List.{List}
-use mathlib.Core.Bool.{Bool, true, false}
-use native.Mathlib.Omega.{arith}
+use mathlib.Core.Bool.{Bool}
 use Rattle.meaning.specs.declared.Check.{Check}
 use Rattle.meaning.specs.declared.Written.{Written}
-use Rattle.meaning.specs.declared.Written.the-variants.{Bytes, TooShort}
 use Rattle.meaning.specs.declared.Refusal.{Refusal}
 use Rattle.meaning.specs.declared.Evaluation.{Evaluation}
 use Rattle.meaning.specs.declared.Comparison.{Comparison}
 use Rattle.meaning.specs.declared.Separation.{Separation}
 use Rattle.meaning.specs.declared.Canonical.{Canonical}
 use Rattle.meaning.specs.declared.LutBit.{LutBit}
-use Rattle.meaning.specs.declared.LutBit.the-variants as lutBit
 use Rattle.meaning.specs.declared.BitVector.{BitVector}
-use Rattle.meaning.specs.declared.BitVector.the-variants as bitVector
 use Rattle.meaning.specs.declared.Removed.{Removed}
-use Rattle.meaning.specs.declared.Removed.the-variants as removed
 use Rattle.meaning.specs.declared.TableProgram.{TableProgram}
-use Rattle.meaning.specs.declared.TableProgram.the-variants as tableProgram
 use Rattle.meaning.specs.declared.Cofactors.{Cofactors}
-use Rattle.meaning.specs.declared.Cofactors.the-variants as cofactors
-use Rattle.meaning.specs.Rules.Tables.{TableAnswer, lutBitSays, bitVectorSays, removedSays, tableProgramSays, cofactorsSay, evalLut, evalLutBv, toBitvec, removeLsbVar, evalLutConstInput, cofactorsInMsb, swapPos}
-use Rattle.meaning.specs.Rules.Verdict.{Displayed, displayed, display, writtenNumber, writtenBytes}
+use Rattle.meaning.specs.Laws.AnswerLaws.{lut-bit-only, bit-vector-only, removed-only, table-program-only, cofactors-only, written-only}
+use Rattle.meaning.specs.Rules.Tables.{lutBitSays, bitVectorSays, removedSays, tableProgramSays, cofactorsSay, evalLut, evalLutBv, toBitvec, removeLsbVar, evalLutConstInput, cofactorsInMsb, swapPos}
+use Rattle.meaning.specs.Rules.Verdict.{Displayed, displayed, display}
 use Rattle.meaning.specs.Rules.Calls.{Verified, verified, verify, Evaluated, evaluated, evaluate, Compared, compared, compare, Judged, judged, Canonicalised, canonicalised, canonicalise, separate}
 
 -- ---- the calls over node lists
@@ -61,53 +55,6 @@ canonicalise-only ns ps work outNodes outPool p q =
       ap (λ (o : Canonicalised). o .outPool) e,
     )
 
--- ---- the answer types of the truth-table routines: what is said tells the answer
-lut-bit-only : (r r′ : LutBit) → lutBitSays r ≡ lutBitSays r′ → r ≡ r′
-lut-bit-only (lutBit.Bit true) (lutBit.Bit true) e = refl
-lut-bit-only (lutBit.Bit true) (lutBit.Bit false) e = absurd (omega (arith, ap (λ (a : TableAnswer). a .first) e))
-lut-bit-only (lutBit.Bit true) lutBit.OutOfRange e = absurd (omega (arith, ap (λ (a : TableAnswer). a .number) e))
-lut-bit-only (lutBit.Bit false) (lutBit.Bit true) e = absurd (omega (arith, ap (λ (a : TableAnswer). a .first) e))
-lut-bit-only (lutBit.Bit false) (lutBit.Bit false) e = refl
-lut-bit-only (lutBit.Bit false) lutBit.OutOfRange e = absurd (omega (arith, ap (λ (a : TableAnswer). a .number) e))
-lut-bit-only lutBit.OutOfRange (lutBit.Bit true) e = absurd (omega (arith, ap (λ (a : TableAnswer). a .number) e))
-lut-bit-only lutBit.OutOfRange (lutBit.Bit false) e = absurd (omega (arith, ap (λ (a : TableAnswer). a .number) e))
-lut-bit-only lutBit.OutOfRange lutBit.OutOfRange e = refl
-
-bit-vector-only : (r r′ : BitVector) → bitVectorSays r ≡ bitVectorSays r′ → r ≡ r′
-bit-vector-only (bitVector.Bits w v) (bitVector.Bits w′ v′) e =
-    let same-width = ap (λ (a : TableAnswer). a .first) e in
-    let same-value = ap (λ (a : TableAnswer). a .second) e in
-    cc
-bit-vector-only (bitVector.Bits w v) bitVector.OutOfRange e = absurd (omega (arith, ap (λ (a : TableAnswer). a .number) e))
-bit-vector-only bitVector.OutOfRange (bitVector.Bits w v) e = absurd (omega (arith, ap (λ (a : TableAnswer). a .number) e))
-bit-vector-only bitVector.OutOfRange bitVector.OutOfRange e = refl
-
-removed-only : (r r′ : Removed) → removedSays r ≡ removedSays r′ → r ≡ r′
-removed-only (removed.Smaller p) (removed.Smaller q) e = ap removed.Smaller (ap (λ (a : TableAnswer). a .second) e)
-removed-only (removed.Smaller p) removed.Nothing e = absurd (omega (arith, ap (λ (a : TableAnswer). a .first) e))
-removed-only (removed.Smaller p) removed.OutOfRange e = absurd (omega (arith, ap (λ (a : TableAnswer). a .number) e))
-removed-only removed.Nothing (removed.Smaller q) e = absurd (omega (arith, ap (λ (a : TableAnswer). a .first) e))
-removed-only removed.Nothing removed.Nothing e = refl
-removed-only removed.Nothing removed.OutOfRange e = absurd (omega (arith, ap (λ (a : TableAnswer). a .number) e))
-removed-only removed.OutOfRange (removed.Smaller q) e = absurd (omega (arith, ap (λ (a : TableAnswer). a .number) e))
-removed-only removed.OutOfRange removed.Nothing e = absurd (omega (arith, ap (λ (a : TableAnswer). a .number) e))
-removed-only removed.OutOfRange removed.OutOfRange e = refl
-
-table-program-only : (r r′ : TableProgram) → tableProgramSays r ≡ tableProgramSays r′ → r ≡ r′
-table-program-only (tableProgram.Program p) (tableProgram.Program q) e = ap tableProgram.Program (ap (λ (a : TableAnswer). a .first) e)
-table-program-only (tableProgram.Program p) tableProgram.OutOfRange e = absurd (omega (arith, ap (λ (a : TableAnswer). a .number) e))
-table-program-only tableProgram.OutOfRange (tableProgram.Program q) e = absurd (omega (arith, ap (λ (a : TableAnswer). a .number) e))
-table-program-only tableProgram.OutOfRange tableProgram.OutOfRange e = refl
-
-cofactors-only : (r r′ : Cofactors) → cofactorsSay r ≡ cofactorsSay r′ → r ≡ r′
-cofactors-only (cofactors.Pair h l) (cofactors.Pair h′ l′) e =
-    let same-high = ap (λ (a : TableAnswer). a .first) e in
-    let same-low = ap (λ (a : TableAnswer). a .second) e in
-    cc
-cofactors-only (cofactors.Pair h l) cofactors.OutOfRange e = absurd (omega (arith, ap (λ (a : TableAnswer). a .number) e))
-cofactors-only cofactors.OutOfRange (cofactors.Pair h l) e = absurd (omega (arith, ap (λ (a : TableAnswer). a .number) e))
-cofactors-only cofactors.OutOfRange cofactors.OutOfRange e = refl
-
 -- ---- the truth-table routines
 pub eval-lut-only : (p : ℕ) (inputs : List ℕ) (r r′ : LutBit) → lutBitSays r ≡ evalLut p inputs → lutBitSays r′ ≡ evalLut p inputs → r ≡ r′
 eval-lut-only p inputs r r′ e f = lut-bit-only r r′ (e ∙ sym f)
@@ -134,12 +81,6 @@ swap-pos-only p k pos r r′ e f = table-program-only r r′ (e ∙ sym f)
 -- ---- the verdict: its questions, its decision and its constructors answer what a definition says, and that is one thing
 pub verdict-only : {A : Type 0} (said : A) {r r′ : A} → r ≡ said → r′ ≡ said → r ≡ r′
 verdict-only said e f = e ∙ sym f
-
-written-only : (r r′ : Written) → writtenNumber r ≡ writtenNumber r′ → writtenBytes r ≡ writtenBytes r′ → r ≡ r′
-written-only (Bytes n) (Bytes m) e f = ap Bytes f
-written-only (Bytes n) TooShort e f = absurd (omega arith)
-written-only TooShort (Bytes m) e f = absurd (omega arith)
-written-only TooShort TooShort e f = refl
 
 pub display-only : (c : Check) (out : List ℕ) (r r′ : Written) {o o′ : List ℕ}
     → displayed r o ≡ display c out → displayed r′ o′ ≡ display c out → (r ≡ r′) × (o ≡ o′)
