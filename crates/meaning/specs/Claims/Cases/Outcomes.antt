@@ -2,8 +2,8 @@
 use Prim.Native.Nat.{ℕ, suc, _+_, _*_, _-_}
 use mathlib.Core.Path.{_≡_, refl}
 use mathlib.Core.List.{List, [], _∷_, _++_, map}
-use mathlib.Core.Bool.{cond}
-use lib.ListN.{replicate}
+use mathlib.Core.Bool.{cond, not}
+use lib.ListN.{replicate, length}
 use lib.Dec.{eqb}
 use Rattle.meaning.specs.Rules.Lent.{cleared}
 use Rattle.meaning.specs.declared.Answer.{Answer}
@@ -32,12 +32,14 @@ use Rattle.meaning.specs.Claims.Drawn.{true, dc, v0, v1, program, mux, a
 abbrev pub workOf : ℕ → ℕ → List ℕ
 workOf n p = replicate (workPerNode * n + workPerPool * p + 3) 1
 
--- what work space holds after the call: nothing but zeros, or nothing but the ones that were lent
+-- what work space holds after the call, all of what was lent: nothing but zeros, or nothing but the ones that were lent
 pub data Left : Type 0 where
   zeros untouched neither : Left
 
-abbrev pub left : List ℕ → Left
-left work = cond (every (eqb 0) work) zeros (cond (every (eqb 1) work) untouched neither)
+abbrev pub left : List ℕ → List ℕ → Left
+left lent work =
+    cond (not (eqb (length lent) (length work))) neither
+    (cond (every (eqb 0) work) zeros (cond (every (eqb 1) work) untouched neither))
 
 -- the answer's words, what work space holds, and the outputs
 pub record Outcome : Type 0 where
@@ -54,13 +56,13 @@ told a = stateOf a ∷ answerWidth a ∷ valueOf a ∷ []
 unfoldable pub verifyAll : List ℕ → List ℕ → List ℕ → Outcome
 verifyAll ns ps work =
     let o = verify ns ps work in
-    outcome (o .answer .number ∷ o .answer .node ∷ []) (left (o .work)) []
+    outcome (o .answer .number ∷ o .answer .node ∷ []) (left work (o .work)) []
 
 unfoldable pub evaluateAll : List ℕ → List ℕ → List ℕ → List ℕ → List ℕ → Outcome
 evaluateAll ns ps bytes work out =
     let o = evaluate ns ps bytes work out in
     let a = o .answer in
-    outcome (a .refusal .number ∷ a .refusal .node ∷ told (a .answer)) (left (o .work)) (o .out ∷ [])
+    outcome (a .refusal .number ∷ a .refusal .node ∷ told (a .answer)) (left work (o .work)) (o .out ∷ [])
 
 unfoldable pub compareAll : Tree → Tree → List ℕ → Outcome
 compareAll t u work =
@@ -68,7 +70,7 @@ compareAll t u work =
     let a = o .answer in
     outcome
     (a .refusal .number ∷ a .refusal .node ∷ checkNumber (a .verdict) ∷ a .index ∷ (told (a .first) ++ told (a .second)))
-    (left (o .work)) []
+    (left work (o .work)) []
 
 unfoldable pub separateAll : Tree → ℕ → ℕ → List ℕ → Outcome
 separateAll t n run work =
@@ -76,13 +78,13 @@ separateAll t n run work =
     let a = o .answer in
     outcome
     (a .refusal .number ∷ a .refusal .node ∷ judgementNumber (a .judgement) ∷ a .index ∷ (told (a .run) ++ told (a .cleared)))
-    (left (o .work)) []
+    (left work (o .work)) []
 
 unfoldable pub canonicaliseAll : Tree → List ℕ → List ℕ → List ℕ → Outcome
 canonicaliseAll t work outNodes outPool =
     let o = canonicalise (listedNodes t) (listedPool t) work outNodes outPool in
     let a = o .answer in
-    outcome (a .refusal .number ∷ a .refusal .node ∷ a .nodes ∷ a .pool ∷ []) (left (o .work)) (o .outNodes ∷ o .outPool ∷ [])
+    outcome (a .refusal .number ∷ a .refusal .node ∷ a .nodes ∷ a .pool ∷ []) (left work (o .work)) (o .outNodes ∷ o .outPool ∷ [])
 
 pub record Whole : Type 0 where
   pub computed : Outcome
