@@ -120,6 +120,10 @@ bad-is before blanks ds b rest hb hd s n e =
     starts [] h = number-starts (length before + length blanks) b rest n
     starts (d ∷ ds) h = number-starts (length before + length blanks) d (ds ++ b ∷ rest) (digit-not-blank d (h .0))
 
+-- ---- no second answer meets the contract
+pub next-word-only : (text : List ℕ) (at : ℕ) {r r′ : Word} → r ≡ nextWord text at → r′ ≡ nextWord text at → r ≡ r′
+next-word-only text at p q = p ∙ sym q
+
 -- ---- reading gets on
 
 -- a number that is read ends past where reading began, and within the text

@@ -17,6 +17,12 @@ use Rattle.decimals.specs.Words.{isBlank, isDigit, extends, number, word
 use Rattle.decimals.specs.Claims.{Ahead, value-ahead}
 use Rattle.decimals.specs.Rows.{onWord, rowFrom, nextRow, filled}
 
+-- no second outcome meets the contract, the lent places included
+pub next-row-only : (text : List ℕ) (at : ℕ) (old : List ℕ) {r r′ : Row} {new new′ : List ℕ}
+    → (r ≡ nextRow text at (length old)) × (new ≡ filled text at old)
+    → (r′ ≡ nextRow text at (length old)) × (new′ ≡ filled text at old) → (r ≡ r′) × (new ≡ new′)
+next-row-only text at old p q = (p .0 ∙ sym (q .0), p .1 ∙ sym (q .1))
+
 -- ---- the answer
 
 -- what the text's end means in front of a place

@@ -15,7 +15,7 @@ use Rattle.meaning.specs.Rules.Canonical.{gateFault, gates, canonicalNod
 use Rattle.meaning.specs.Rules.Folding.{fold, lut}
 use Rattle.meaning.specs.Rules.Listing.{subtrees, listedNodes, listedPool}
 use Rattle.meaning.specs.Rules.Calls.{canonicalRefusal}
-use Rattle.meaning.specs.Claims.Drawn.{Said, Line, _is_, false, true, dc, v0, v1, v2, nor, mux, and, xor, inv, bus, reg, arg, cycle, list, refused, done, Agree, numbered, canonicalising}
+use Rattle.meaning.specs.Claims.Drawn.{Said, Line, _is_, false, true, dc, v0, v1, v2, nor, mux, and, xor, inv, bus, reg, arg, cycle, list, refused, done, Agree, numbered, canonicalising, program}
 
 -- the list of a term
 unfoldable pub listing : Tree → Said
@@ -74,6 +74,10 @@ canonicals =
     ∷ (canonicalising (nor (bus (v0 ∷ [])) (bus (v0 ∷ []))) is refused 14 2)
     ∷ (canonicalising (mux true (bus (v0 ∷ [])) (bus (v1 ∷ []))) is refused 14 5)
     ∷ (numbered (canonicalRefusal (nodeOf 10 0 0 ++ nodeOf 8 0 1 ++ nodeOf 3 0 0) (0 ∷ []) 100 (wordsPerNode * 3) 0) is done)
+    -- 6 and 8 are asked before 14
+    ∷ (canonicalising (and (inv (bus [])) (arg 0)) is refused 6 3)
+    ∷ (canonicalising (and (inv (bus [])) (program 0)) is refused 6 3)
+    ∷ (canonicalising (and (inv (bus [])) v0) is refused 8 3)
     -- 19: last, and only of what is too short
     ∷ (fitting (and v0 v1) (wordsPerNode * 4) 3 is done)
     ∷ (fitting (and v0 v1) (wordsPerNode * 4 - 1) 3 is refused 19 0)

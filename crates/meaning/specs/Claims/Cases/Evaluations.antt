@@ -85,6 +85,10 @@ evaluations =
     ∷ (evaluating (and (bus []) (bus [])) [] is value 0 0)
     ∷ (evaluating (nor (bus []) (bus [])) [] is value 0 0)
     ∷ (evaluating (inv (bus [])) [] is value 0 0)
+    ∷ (evaluating (and (bus []) (mux v9 (bus []) (bus []))) [] is value 0 0)
+    ∷ (evaluating (and (mux v9 (bus []) (bus [])) (bus [])) [] is value 0 0)
+    ∷ (evaluating (nor (bus []) (mux v9 (bus []) (bus []))) [] is value 0 0)
+    ∷ (evaluating (xor (bus []) (mux v9 (bus []) (bus []))) [] is undriven)
     -- Xor, Not: the first failing operand in order
     ∷ (evaluating (xor (bits true true) (bits true false)) [] is value 2 1)
     ∷ (evaluating (xor false dc) [] is dont-care)

@@ -43,6 +43,8 @@ soundness =
     -- shapes: what a Bus may hold
     ∷ (sounding (bus (false ∷ dc ∷ v0 ∷ lut 1 [] ∷ reg 12 v0 ∷ [])) is done)
     ∷ (sounding (cycle (bus1 (arg 0))) is done)
+    -- one Program node, first in a Lut and below an Arg
+    ∷ (sounding (cycle (bus (lut 0 [] ∷ arg 0 ∷ []))) is done)
     ∷ (sounding (bus1 (and (bus1 v0) (bus1 v0))) is refused 8 3)
     ∷ (sounding (bus1 (xor (bus1 v0) (bus1 v0))) is refused 8 3)
     ∷ (sounding (bus1 (nor (bus1 v0) (bus1 v0))) is refused 8 3)
@@ -53,7 +55,7 @@ soundness =
     ∷ (sounding (inv (bus [])) is done)
     -- shapes as numbers, and the widths of their values
     ∷ (words (map shape.shapeCode (shape.program ∷ shape.bit ∷ shape.bus 0 ∷ shape.bus 64 ∷ [])) is words (0 ∷ 1 ∷ 2 ∷ 66 ∷ []))
-    ∷ (words (map shape.widthOf (shape.bit ∷ shape.bus 0 ∷ shape.bus 64 ∷ [])) is words (1 ∷ 0 ∷ 64 ∷ []))
+    ∷ (words (map shape.widthOf (shape.program ∷ shape.bit ∷ shape.bus 0 ∷ shape.bus 64 ∷ [])) is words (0 ∷ 1 ∷ 0 ∷ 64 ∷ []))
     -- 7 is asked after 6 and before 8
     ∷ (numbered (sound [] []) is refused 7 0)
     -- an unreachable misfit doesn't count

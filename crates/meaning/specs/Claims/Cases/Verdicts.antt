@@ -49,6 +49,8 @@ verdicts =
     ∷ (writing NotEquiv (replicate 9 1) is words (0 ∷ 8 ∷ 78 ∷ 111 ∷ 116 ∷ 69 ∷ 113 ∷ 117 ∷ 105 ∷ 118 ∷ 1 ∷ []))
     ∷ (writing Inconclusive (replicate 12 1) is
     words (0 ∷ 12 ∷ 73 ∷ 110 ∷ 99 ∷ 111 ∷ 110 ∷ 99 ∷ 108 ∷ 117 ∷ 115 ∷ 105 ∷ 118 ∷ 101 ∷ []))
+    ∷ (writing NotEquiv (replicate 7 1) is words (19 ∷ 0 ∷ replicate 7 1))
+    ∷ (writing Inconclusive (replicate 11 1) is words (19 ∷ 0 ∷ replicate 11 1))
     ∷ (writing Equiv (replicate 4 1) is words (19 ∷ 0 ∷ 1 ∷ 1 ∷ 1 ∷ 1 ∷ []))
     ∷ (words (map writtenNumber (Bytes 5 ∷ TooShort ∷ [])) is words (0 ∷ 19 ∷ []))
     ∷ (words (map writtenBytes (Bytes 5 ∷ TooShort ∷ [])) is words (5 ∷ 0 ∷ []))
