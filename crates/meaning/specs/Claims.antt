@@ -12,6 +12,8 @@ pub mod Tables
 pub mod Only
 -- ---- reachable and least Cycle depth mean paths; the tests of equality mean equality
 pub mod Reach
+-- ---- verification says yes or no as 000's own verifier does
+pub mod PathByPath
 -- ---- the examples that document 01 marks *, and a line for each case of each rule
 pub mod Examples
 pub mod Cases

@@ -20,6 +20,8 @@ pub mod AnswerLaws
 pub mod ReachLaws
 pub mod PathLaws
 pub mod InputLaws
+-- ---- 000's walk path by path and the marks agree
+pub mod PathByPathLaws
 -- ---- the canonical list: folding and the normal form keep answers; an accepted root is well made; its list reads back
 -- and is accepted
 pub mod FoldLaws

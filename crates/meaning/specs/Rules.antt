@@ -10,10 +10,11 @@ pub mod Search
 pub mod Words
 pub mod Lent
 pub mod Refusals
--- ---- numbers 1 to 8, and 10: sizes and layout; "Verification"; "Evaluable"
+-- ---- numbers 1 to 8, and 10: sizes and layout; "Verification", and 000's own verifier to hold it against; "Evaluable"
 pub mod Layout
 pub mod Reach
 pub mod Verification
+pub mod PathByPath
 pub mod Evaluable
 -- ---- "Answers of a node"
 pub mod Answers

@@ -1,5 +1,8 @@
-// The answers of document 01 as types, and nothing else: what each of them means is defined in specs/Rules, and the
-// code that gives them stands in the crates above this one.
+// The answers of document 01 as types, and its limits, numbers and kinds as constants; nothing else. What each of them
+// means is defined in specs/Rules, and the code that gives them stands in the crates above this one.
+pub mod kinds;
+pub mod limits;
+pub mod numbers;
 
 // ---- "Answers of a node": "a width with a value, or a failure: 1 undriven, 2 DC, 3 register, 4 ARG"
 pub enum Failure {

@@ -2,6 +2,7 @@
 -- that a slip in a definition is seen here: one table for one file of Rules, each under one claim.
 pub mod Layouts
 pub mod Verifications
+pub mod Walks
 pub mod Soundness
 pub mod Evaluations
 pub mod Comparisons

@@ -38,7 +38,7 @@ module _ (ns ps : List ℕ) where
       nearer-right (through ns ps c j x) _ (all-pos c (suc j) ms m (omega arith) (subst (λ (i : ℕ). 0 < through ns ps c i (getD ms m 0)) (omega arith) h))
 
   module _ (n : ℕ) where
-    marks-length : (d : ℕ) → length (marksOfLast ns ps n d) ≡ d
+    pub marks-length : (d : ℕ) → length (marksOfLast ns ps n d) ≡ d
     marks-length zero = refl
     marks-length (suc zero) = refl
     marks-length (suc (suc d)) = ap suc (marks-length (suc d))
@@ -52,7 +52,7 @@ module _ (ns ps : List ℕ) where
     shifts (suc e) d m = rw (suc-add e d, suc-add e m) (shift (e + d) (e + m) ∙ shifts e d m)
 
   -- the mark of node i + m, from the marks of the last n - i nodes
-  mark-is : (i m d : ℕ) → i + d ≡ nodeCount ns → markOf ns ps (i + m) ≡ getD (marksOfLast ns ps (nodeCount ns) d) m 0
+  pub mark-is : (i m d : ℕ) → i + d ≡ nodeCount ns → markOf ns ps (i + m) ≡ getD (marksOfLast ns ps (nodeCount ns) d) m 0
   unfolding marks
   mark-is i m d e = subst (λ (x : ℕ). getD (marksOfLast ns ps (nodeCount ns) x) (i + m) 0 ≡ getD (marksOfLast ns ps (nodeCount ns) d) m 0) e (shifts (nodeCount ns) i d m)
 

@@ -201,7 +201,7 @@ one-of {p} {q} e f = (
   λ r. ⊎-elim (λ a. rw (e .1 a) refl) (λ b. rw (f .1 b) (or-true p)) r,
 )
 
-neither-of : (p q : Bool) → p ≡ false → q ≡ false → (p || q) ≡ false
+pub neither-of : (p q : Bool) → p ≡ false → q ≡ false → (p || q) ≡ false
 neither-of p q h k = rw (h, k)
 
 pub neither : {p q : Bool} {P Q : Type 0} → ((p ≡ false) ↔ P) → ((q ≡ false) ↔ Q) → ((p || q) ≡ false) ↔ (P × Q)

@@ -32,7 +32,7 @@ module _ (ns ps : List ℕ) where
   trees-length zero = refl
   trees-length (suc n) = length-append (treesOf ns ps n) _ ∙ rw (trees-length n, add-one)
 
-  tree-from : (i : ℕ) → treeOf ns ps i ≡ grown (λ c. getD (treesOf ns ps i) c stump) i
+  pub tree-from : (i : ℕ) → treeOf ns ps i ≡ grown (λ c. getD (treesOf ns ps i) c stump) i
   unfolding treeOf treesOf
   tree-from i = getD-at (treesOf ns ps i) _ [] stump i (trees-length i)
 

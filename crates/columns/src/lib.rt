@@ -1,0 +1,41 @@
+// The work space as a table: a row of WORK_PER_NODE words for each node, and a column for each thing that is kept of a
+// node. Parts of one lent slice cannot be lent apart, so every pass takes the whole of it and goes by column and row. The
+// plain meaning is specs/Columns.antt (`cell`, `withColumn`); code reads by `get` and writes by `put`. The rows of a second
+// list follow those of the first, so every pass also takes the number of its list's first row.
+use meaning::limits::WORK_PER_NODE;
+ghost use mathlib.Core.Path.{_≡_};
+ghost use Prim.Native.Nat.{_<_};
+ghost use lib.ListN.{length, set};
+ghost use Rattle.meaning.specs.Rules.Lent.{cleared};
+ghost use Rattle.columns.specs.Columns.{place, cell};
+
+// 0 where no path leads to the node, else 1 + the least number of Cycle nodes over it (Rules/Reach, `markOf`)
+pub const MARK: usize = 0;
+
+// 0 a Program, 1 a bit, n + 2 a bus of n (Rules/Evaluable, `shapeCode`)
+pub const SHAPE: usize = 1;
+
+// Inner: the word in a column of a row.
+pub fn get(work: &[u64], column: usize, row: usize) -> u64
+    requires { ⌜ place column row < length (now work) ⌝ }
+    ensures { λ r. ⌜ r ≡ cell (now (work .entry)) column row ⌝ }
+{
+    work[WORK_PER_NODE * row + column]
+}
+
+// Inner: stores a word in a column of a row, and leaves all others.
+pub fn put(work: &mut [u64], column: usize, row: usize, word: u64)
+    requires { ⌜ place column row < length (now work) ⌝ }
+    ensures { λ _. ⌜ now (work .exit) ≡ set (now (work .entry)) (place column row) word ⌝ }
+{
+    work[WORK_PER_NODE * row + column] = word;
+}
+
+// "Work space is .. all zeros after the call": the whole of it, however long. Any slice.
+pub fn clear(work: &mut [u64])
+    ensures { λ _. ⌜ now (work .exit) ≡ cleared (now (work .entry)) ⌝ }
+{
+    for i in 0..work.len() {
+        work[i] = 0;
+    }
+}

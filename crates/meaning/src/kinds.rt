@@ -1,0 +1,10 @@
+// The kind words that a rule names (specs/Rules/Kinds).
+pub const PROGRAM: u32 = 1;
+
+// Const, Program, DC and Var have no part of the pool; "kinds 4 to 16" have one
+pub const VARIABLE: u32 = 3;
+
+pub const BUS: u32 = 10;
+
+// the last kind there is
+pub const CYCLE: u32 = 16;
