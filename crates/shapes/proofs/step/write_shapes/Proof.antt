@@ -1,0 +1,188 @@
+use mathlib.Core.Path.{_≡_, refl, sym, ap, ap₂, subst, _∙_}
+use mathlib.Core.List.{List}
+use Prim.Native.Nat.{ℕ, _≤_, _<_, _-_, _+_, _*_}
+use lib.ListN.{length, getD, set}
+use borrow.Author.Needs.{needs}
+use native.Mathlib.Omega.{arith}
+use Rattle.meaning.specs.Claims.Column.{WellLaid}
+use Rattle.meaning.specs.Rules.Evaluable.{shapeCode, shapeStep}
+use Rattle.meaning.specs.Rules.Trees.{nodeCount, kindAt, childrenAt}
+use Rattle.meaning.specs.Rules.Kinds.{kindOf, cycleWord}
+use Rattle.meaning.specs.Rules.Limits.{workPerNode}
+use Rattle.lists.specs.Laid.{part-fits}
+use Rattle.columns.specs.ColumnLaws.{with-none, with-next, with-length, with-column}
+use Rattle.columns.specs.Columns.{place, cell, shapeColumn, Column, withColumn}
+use Rattle.shapes.specs.Shapes.{shapeAt, childShapes, shape-step, children-hold, child-rows}
+use Rattle.shapes.proofs.step.write_shapes.Statement.{statement}
+use Rattle.shapes.proofs.step.write_shapes.Tie as tie
+use Rattle.shapes.proofs.step.write_shapes.Reads as reads
+use Rattle.shapes.proofs.step.write_shapes.Lts as lts
+use Rattle.columns.proofs.put.Reads as put-reads
+use Rattle.lists.proofs.children.children_of.Reads as children-of-reads
+use Rattle.lists.proofs.nodes.kind_of.Reads as kind-of-reads
+use Rattle.lists.proofs.nodes.node_count.Reads as node-count-reads
+use Rattle.shapes.proofs.step.shape_step.Reads as shape-step-reads
+
+abbrev Inv-loop : tie.InvT-loop
+Inv-loop nodes pool base work₀ n i₀ work i = (i ≤ n) × (n ≡ nodeCount nodes) × (work ≡ withColumn shapeColumn base i (shapeAt nodes pool) work₀)
+
+abbrev μ-loop : tie.MeasureT-loop
+μ-loop nodes pool base work₀ n i₀ work i = n - i
+
+-- src/step.rt:35:9
+node-count-requires : tie.Need-node-count-requires Inv-loop μ-loop
+node-count-requires c κs = search needs
+
+-- src/step.rt:36:5
+loop-holds : tie.Need-loop-holds Inv-loop μ-loop
+loop-holds c =
+    let s = c .before .before .before .before in
+    (omega arith, c .node-count .ensures, sym (with-none shapeColumn (s .args .base) (shapeAt (s .args .nodes .now) (s .args .pool .now)) (s .args .work .now)))
+
+-- src/step.rt:37:13
+kind-of-requires : tie.Need-kind-of-requires Inv-loop μ-loop
+kind-of-requires c κs = search needs
+
+-- src/step.rt:38:13
+children-of-requires : tie.Need-children-of-requires Inv-loop μ-loop
+children-of-requires c κs =
+    let s = c .before .before .before .before .before .before .before in
+    let l = c .before .before .loop in
+    let ns : List ℕ = s .args .nodes .now in
+    let ps : List ℕ = s .args .pool .now in
+    let base : ℕ = s .args .base in
+    let work : List ℕ = s .args .work .now in
+    let i : ℕ = l .i in
+    let room : workPerNode * (base + nodeCount ns) ≤ length work = s .pre .1 in
+    let kept : length (l .work) ≡ length work = ap length (l .inv .2) ∙ with-length shapeColumn base i (shapeAt ns ps) work in
+    let inside : i < nodeCount ns = omega arith in
+    let well : WellLaid ns ps i = s .pre .0 i inside in (inside, part-fits ns ps i well)
+
+-- src/step.rt:39:13
+shape-step-requires : tie.Need-shape-step-requires Inv-loop μ-loop
+shape-step-requires c κs =
+    let s = c .before .before .before .before .before .before .before .before .before in
+    let l = c .before .before .before .before .loop in
+    let ns : List ℕ = s .args .nodes .now in
+    let ps : List ℕ = s .args .pool .now in
+    let base : ℕ = s .args .base in
+    let work : List ℕ = s .args .work .now in
+    let i : ℕ = l .i in
+    let room : workPerNode * (base + nodeCount ns) ≤ length work = s .pre .1 in
+    let kept : length (l .work) ≡ length work = ap length (l .inv .2) ∙ with-length shapeColumn base i (shapeAt ns ps) work in
+    let inside : i < nodeCount ns = omega arith in
+    let well : WellLaid ns ps i = s .pre .0 i inside in
+    let known : kindAt ns i ≤ cycleWord = well .0 in (
+      omega (arith, c .before .before .kind-of .ensures, known),
+      rw (c .before .children-of .ensures) (child-rows ns ps (l .work) base i well inside (omega (arith, room, kept))),
+    )
+
+-- src/step.rt:40:26
+add-put : tie.Need-add-put Inv-loop μ-loop
+add-put c =
+    let s = c .before .before .before .before .before .before .before .before .before .before .before in
+    let l = c .before .before .before .before .before .before .loop in
+    let ns : List ℕ = s .args .nodes .now in
+    let ps : List ℕ = s .args .pool .now in
+    let base : ℕ = s .args .base in
+    let work : List ℕ = s .args .work .now in
+    let i : ℕ = l .i in
+    let room : workPerNode * (base + nodeCount ns) ≤ length work = s .pre .1 in
+    let kept : length (l .work) ≡ length work = ap length (l .inv .2) ∙ with-length shapeColumn base i (shapeAt ns ps) work in
+    let inside : i < nodeCount ns = omega arith in
+    let well : WellLaid ns ps i = s .pre .0 i inside in omega (arith, room, kept, inside)
+
+-- src/step.rt:40:9
+put-requires : tie.Need-put-requires Inv-loop μ-loop
+put-requires c κs =
+    let s = c .before .before .before .before .before .before .before .before .before .before .before in
+    let l = c .before .before .before .before .before .before .loop in
+    let ns : List ℕ = s .args .nodes .now in
+    let ps : List ℕ = s .args .pool .now in
+    let base : ℕ = s .args .base in
+    let work : List ℕ = s .args .work .now in
+    let i : ℕ = l .i in
+    let room : workPerNode * (base + nodeCount ns) ≤ length work = s .pre .1 in
+    let kept : length (l .work) ≡ length work = ap length (l .inv .2) ∙ with-length shapeColumn base i (shapeAt ns ps) work in
+    let inside : i < nodeCount ns = omega arith in
+    let well : WellLaid ns ps i = s .pre .0 i inside in omega (arith, room, kept, inside)
+
+-- src/step.rt:36:9
+add-i : tie.Need-add-i Inv-loop μ-loop
+add-i c = search needs
+
+-- src/step.rt:36:5
+loop-less : tie.Need-loop-less Inv-loop μ-loop
+loop-less c = search needs
+
+-- src/step.rt:36:5
+loop-again : tie.Need-loop-again Inv-loop μ-loop
+loop-again c =
+    let s = c .before .before .before .before .before .before .before .before .before .before .before .before .before .before in
+    let l = c .before .before .before .before .before .before .before .before .before .loop in
+    let ns : List ℕ = s .args .nodes .now in
+    let ps : List ℕ = s .args .pool .now in
+    let base : ℕ = s .args .base in
+    let work : List ℕ = s .args .work .now in
+    let i : ℕ = l .i in
+    let room : workPerNode * (base + nodeCount ns) ≤ length work = s .pre .1 in
+    let kept : length (l .work) ≡ length work = ap length (l .inv .2) ∙ with-length shapeColumn base i (shapeAt ns ps) work in
+    let inside : i < nodeCount ns = omega arith in
+    let well : WellLaid ns ps i = s .pre .0 i inside in
+    let below : Column (l .work) shapeColumn base i (shapeAt ns ps) =
+    rw (l .inv .2) (with-column shapeColumn base i (shapeAt ns ps) work (omega arith) (omega (arith, room, inside))) in
+    let shape : c .before .before .before .before .shape-step .result ≡ shapeAt ns ps i =
+    c .before .before .before .before .shape-step .ensures (childShapes ns ps i) (rw (c .before .before .before .before .before .before .children-of .ensures) (children-hold ns ps (l .work) base i well below))
+    ∙ ap (λ (k : ℕ). shapeCode (shapeStep (kindOf k) (childShapes ns ps i))) (c .before .before .before .before .before .before .before .kind-of .ensures) ∙ sym (shape-step ns ps i well) in (
+      omega arith,
+      l .inv .1,
+      c .before .before .put .ensures ∙ ap₂ (λ (w : List ℕ) (v : ℕ). set w (place shapeColumn (base + i)) v) (l .inv .2) shape
+          ∙ sym (with-next shapeColumn base i (shapeAt ns ps) work),
+    )
+
+-- src/step.rt:30:1
+same-length : tie.Need-same-length Inv-loop μ-loop
+same-length c =
+    let s = c .before .before .before .before .before .before in
+    let l = c .before .loop in
+    let ns : List ℕ = s .args .nodes .now in
+    let ps : List ℕ = s .args .pool .now in
+    let base : ℕ = s .args .base in
+    let work : List ℕ = s .args .work .now in
+    let i : ℕ = l .i in
+    let room : workPerNode * (base + nodeCount ns) ≤ length work = s .pre .1 in
+    let kept : length (l .work) ≡ length work = ap length (l .inv .2) ∙ with-length shapeColumn base i (shapeAt ns ps) work in kept
+
+-- src/step.rt:30:1
+returns : tie.Need-returns Inv-loop μ-loop
+returns c =
+    let s = c .before .before .before .before .before .before in
+    let l = c .before .loop in
+    let ns : List ℕ = s .args .nodes .now in
+    let ps : List ℕ = s .args .pool .now in
+    let base : ℕ = s .args .base in
+    let work : List ℕ = s .args .work .now in
+    let i : ℕ = l .i in
+    let room : workPerNode * (base + nodeCount ns) ≤ length work = s .pre .1 in
+    let kept : length (l .work) ≡ length work = ap length (l .inv .2) ∙ with-length shapeColumn base i (shapeAt ns ps) work in
+    let all : i ≡ nodeCount ns = omega arith in
+    l .inv .2 ∙ ap (λ (n : ℕ). withColumn shapeColumn base n (shapeAt ns ps) work) all
+
+pub write-shapes-spec : {M : Type 1} → statement M
+write-shapes-spec =
+    tie.close
+    (tie.spec
+    Inv-loop
+    μ-loop
+    node-count-requires
+    loop-holds
+    kind-of-requires
+    children-of-requires
+    shape-step-requires
+    add-put
+    put-requires
+    add-i
+    loop-less
+    loop-again
+    same-length
+    returns)
