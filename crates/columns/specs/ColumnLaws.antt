@@ -6,12 +6,13 @@ use mathlib.Core.List.{List, [], _∷_}
 use mathlib.Core.Bool.{cond}
 use native.Mathlib.Numerals.{add-one}
 use native.Mathlib.Omega.{arith}
-use native.Mathlib.Decide.{decLt, ℕ-discrete}
-use lib.ListN.{length, getD, set, length-set}
+use native.Mathlib.Decide.{ℕ-discrete}
+use lib.ListN.{length, getD, set, length-set, replicate}
 use lib.Seq.{getD-set-same, getD-set-other}
 use lib.Dec.{eqb}
 use borrow.Author.Tests.{eq-eqb, ne-eqb}
 use Rattle.meaning.specs.Rules.Limits.{workPerNode}
+use Rattle.meaning.specs.Rules.Lent.{cleared}
 use Rattle.columns.specs.Columns.{place, cell, Column, withColumn}
 
 -- ---- stores in a list
@@ -26,6 +27,11 @@ set-apart (x ∷ l) zero zero v w h = absurd (h refl)
 set-apart (x ∷ l) zero (suc j) v w h = refl
 set-apart (x ∷ l) (suc i) zero v w h = refl
 set-apart (x ∷ l) (suc i) (suc j) v w h = ap (λ (t : List ℕ). x ∷ t) (set-apart l i j v w (λ e. h (ap suc e)))
+
+-- clearing depends on the length alone: what was written before does not matter
+pub cleared-alike : (v w : List ℕ) → length v ≡ length w → cleared v ≡ cleared w
+unfolding cleared
+cleared-alike v w e = ap (λ (n : ℕ). replicate n 0) e
 
 module _ (q base : ℕ) where
   -- one row more

@@ -26,7 +26,8 @@ abbrev pub Laid : List ℕ → List ℕ → Type 0
 Laid ns ps = All ns ps (WellLaid ns ps)
 
 -- what number 4 asks of a kind that has children
-parent-fits : (kind first count entries : ℕ) → variableWord < kind → firstFits kind first count entries ≡ true → first + count ≤ entries
+parent-fits : (kind first count entries : ℕ) → variableWord < kind → firstFits kind first count entries ≡ true
+    → first + count ≤ entries
 parent-fits kind first count entries parent fits =
     let plain : leb (first + count) entries ≡ true =
     rw (
@@ -38,6 +39,7 @@ parent-fits kind first count entries parent fits =
     leb-true (first + count) entries plain
 
 module _ (ns ps : List ℕ) where
+  -- number 4 alone gives the part, before number 5 is asked
   pub laid-part : (i : ℕ) → laidOut ns ps i ≡ true → PartFits ns ps i
   laid-part i laid parent =
       let fits : firstFits (kindAt ns i) (firstAt ns i) (countAt ns i) (length ps) ≡ true =
@@ -47,9 +49,11 @@ module _ (ns ps : List ℕ) where
   pub part-fits : (i : ℕ) → WellLaid ns ps i → PartFits ns ps i
   part-fits i well = laid-part i (well .1)
 
+  -- number 5 as a test, where a proof wants the definition's own
   pub children-below : (i : ℕ) → WellLaid ns ps i → childrenBelow ns ps i ≡ true
   children-below i well = every-is (λ c. ltb c i) (λ c. is-lt c i) (childrenAt ns ps i) .1 (well .2)
 
+  -- a list that `layout`, and that `sizes`, lets pass
   pub layout-laid : layout ns ps .number ≡ 0 → Laid ns ps
   layout-laid passed = layout-passed ns ps .when .0 passed
 

@@ -11,7 +11,7 @@ ghost use Rattle.meaning.specs.Rules.Trees.{nodeCount, childrenAt};
 ghost use Rattle.lists.specs.Laid.{PartFits};
 
 // "The number of children is decided by the kind": may a node of this kind have `count` of them? A Program's count word is
-// the high half of its value, and any; a kind above 16 may have none at all.
+// the high half of its value, and any; for a kind above 16 no count is right.
 pub fn may_have(kind: u32, count: usize) -> bool
     ensures { λ r. ⌜ r ≡ mayHave (kindOf kind) count ⌝ }
 {

@@ -12,8 +12,8 @@ use meaning::numbers::BAD_LAYOUT;
 use meaning::numbers::DONE;
 use meaning::numbers::UNKNOWN_KIND;
 ghost use mathlib.Core.Path.{_≡_};
-ghost use Prim.Native.Nat.{_^_, _<_};
-ghost use lib.Dec.{ltb};
+ghost use Prim.Native.Nat.{_+_, _^_, _<_};
+ghost use lib.Dec.{ltb, leb};
 ghost use Rattle.meaning.specs.Rules.Trees.{nodeCount};
 ghost use Rattle.meaning.specs.Rules.Refusals.{every};
 ghost use Rattle.meaning.specs.Rules.Layout.{firstFits, laidOut, layoutFault};
@@ -49,8 +49,7 @@ fn laid_out(nodes: &[u32], pool: &[u32], i: usize) -> bool
     first_fits(kind, first_of(nodes, i), count, pool.len())
 }
 
-// "Const: first is 0 or 1. Var: first is its number 0 to 255. DC: both 0"; a Program's low half is any; "for kinds 4 to 16
-// first + count" must not be above the pool's length. Both are words of 32 bits, so the sum does not wrap.
+// "Const: first is 0 or 1. Var: first is its number 0 to 255. DC: both 0"; a Program's low half is any.
 fn first_fits(kind: u32, first: usize, count: usize, entries: usize) -> bool
     requires { ⌜ (first < 2 ^ 32) × (count < 2 ^ 32) ⌝ }
     ensures { λ r. ⌜ r ≡ firstFits kind first count entries ⌝ }
@@ -60,8 +59,16 @@ fn first_fits(kind: u32, first: usize, count: usize, entries: usize) -> bool
         1 => true,
         2 => first == 0,
         3 => first < VARIABLE_COUNT,
-        _ => first + count <= entries,
+        _ => part_fits(first, count, entries),
     }
+}
+
+// "for kinds 4 to 16 first + count" must not be "above the pool's length". Both are words, so their sum does not wrap.
+fn part_fits(first: usize, count: usize, entries: usize) -> bool
+    requires { ⌜ (first < 2 ^ 32) × (count < 2 ^ 32) ⌝ }
+    ensures { λ r. ⌜ r ≡ leb (first + count) entries ⌝ }
+{
+    first + count <= entries
 }
 
 // Is every child numbered below node i?

@@ -13,7 +13,7 @@ use Rattle.meaning.specs.Rules.Search.{lowest}
 use Rattle.meaning.specs.Rules.Refusals.{done, refuse, isDone, _then_, require, atLowest, every}
 use Rattle.meaning.specs.Rules.Assignments.{isIn}
 use Rattle.meaning.specs.Claims.Terms.{NoNode, Exactly, Passed, Says, LowestFaulty}
-use Rattle.meaning.specs.Laws.BoolLaws.{true-false, and-left, and-right}
+use Rattle.meaning.specs.Laws.BoolLaws.{true-false, not-true, and-left, and-right}
 use Rattle.meaning.specs.Laws.SearchLaws.{IsLowest, lowest-is, lowest-only}
 use Rattle.meaning.specs.Laws.AssignmentLaws.{in-append}
 
@@ -32,6 +32,11 @@ module _ (r s : Refusal) where
       first : (b : Bool) → isDone r ≡ b → P (r then s)
       first true e = let h = eqb-true (r .number) 0 e in subst P (sym (then-go h)) (go h)
       first false e = let h = eqb-false (r .number) 0 e in subst P (sym (then-stop h)) (stop h)
+
+-- a row may be cut anywhere
+pub then-joined : (r s t : Refusal) → ((r then s) then t) ≡ (r then s then t)
+then-joined r s t =
+    by-first r s (λ x. (x then t) ≡ (r then s then t)) (λ z. sym (then-go r (s then t) z)) (λ z. then-stop r t z ∙ sym (then-stop r (s then t) z))
 
 -- ---- which numbers a test can say
 or-more : (z a b : Bool) → (z || a) ≡ true → (z || (a || b)) ≡ true
@@ -61,6 +66,22 @@ require-says false n = record { within = rw (eq-eqb n n refl) (or-true (eqb n 0)
 
 pub never : {r : Refusal} {a : List ℕ} → Says r a → (n : ℕ) → isIn n (0 ∷ a) ≡ false → r .number ≡ n → ⊥
 never {r} {a} p n h e = true-false (subst (λ (x : ℕ). isIn x (0 ∷ a) ≡ true) e (p .within)) h
+
+-- ---- a test that says one number: 0, or it
+pub one-number : {r : Refusal} {n : ℕ} → Says r (n ∷ []) → (r .number ≡ 0 → ⊥) → r .number ≡ n
+one-number {r} {n} s h = eqb-true (r .number) n (go (eqb (r .number) 0) refl (eqb (r .number) n) (s .within))
+  where
+    go : (a : Bool) → eqb (r .number) 0 ≡ a → (b : Bool) → (a || (b || false)) ≡ true → b ≡ true
+    go true e b k = absurd (h (eqb-true (r .number) 0 e))
+    go false e true k = refl
+    go false e false k = k
+
+-- exactly one of two answers: a test's 0 is a definition's yes, so its one number is the no
+pub other-number : {r : Refusal} {n : ℕ} {b : Bool} → Says r (suc n ∷ []) → ((r .number ≡ 0) ↔ (b ≡ true)) → (r .number ≡ suc n) ↔ (b ≡ false)
+other-number {r} {n} {b} s e = (
+  λ h. not-true b (λ t. omega (arith, h, e .1 t)),
+  λ f. one-number s (λ z. true-false (e .0 z) f),
+)
 
 -- numbers from 11 on are none from 1 to 10
 pub late-apart : (a : List ℕ) → every (λ m. ltb 10 m) a ≡ true → (n : ℕ) → n < 10 → isIn (suc n) a ≡ false

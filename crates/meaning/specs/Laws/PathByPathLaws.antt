@@ -4,26 +4,25 @@ use Prim.Native.Nat.{ℕ, zero, suc, _+_, _-_, _≤_, _<_}
 use mathlib.Core.Path.{_≡_, refl, sym, ap, subst, _∙_}
 use mathlib.Core.Logic.{_↔_}
 use mathlib.Core.List.{[], List, _∷_}
-use mathlib.Core.Bool.{Bool, true, false, cond, not, _&&_, _||_, or-true}
+use mathlib.Core.Bool.{Bool, true, false, cond, not, _&&_, or-true}
 use native.Mathlib.Omega.{arith}
 use native.Mathlib.Decide.{decLt}
 use lib.Dec.{ltb, leb, eqb}
 use borrow.Author.Tests.{eqb-true, eq-eqb, ne-eqb, ltb-true, lt-ltb, leb-false, lt-leb}
 use Rattle.meaning.specs.declared.Refusal.{Refusal}
 use Rattle.meaning.specs.Rules.Kinds.{Kind, Const, Program, DC, Var, Nor, Mux, And, Xor, Not, Lut, Bus, Reg, Arg, Cycle, Unknown, kindOf, cycleWord}
-use Rattle.meaning.specs.Rules.Trees.{Tree, Forest, node, kindWord, datum, children, trees, forest, nodeCount, kindAt, childrenAt, treeOf, rootOf}
+use Rattle.meaning.specs.Rules.Trees.{Tree, node, kindWord, datum, children, trees, forest, nodeCount, kindAt, childrenAt, treeOf, rootOf}
 use Rattle.meaning.specs.Rules.Refusals.{_then_, some}
 use Rattle.meaning.specs.Rules.Layout.{sizes, workFor, room, childrenBelow, layout}
 use Rattle.meaning.specs.Rules.Reach.{markOf, PathTo, atRoot, down, cycles, isChild}
 use Rattle.meaning.specs.Rules.Verification.{isProgram, wrong, wrongTree, verification}
 use Rattle.meaning.specs.Rules.PathByPath.{depthUnder, verifyRec, verifyRecAll, verifyExpr}
 use Rattle.meaning.specs.Rules.Calls.{verifyRefusal}
-use Rattle.meaning.specs.Claims.Terms.{Says}
 use Rattle.meaning.specs.Claims.Column.{WellLaid, Verifies, All}
-use Rattle.meaning.specs.Laws.BoolLaws.{true-false, not-true, and-left, and-right, and-both, not-is-true, or-left-false, or-right-false}
+use Rattle.meaning.specs.Laws.BoolLaws.{true-false, and-left, and-right, and-both, not-is-true, or-left-false, or-right-false}
 use Rattle.meaning.specs.Laws.TestLaws.{is-lt, every-is, neither-of}
 use Rattle.meaning.specs.Laws.TreeLaws.{tree-at}
-use Rattle.meaning.specs.Laws.NumberLaws.{then-go, never}
+use Rattle.meaning.specs.Laws.NumberLaws.{then-go, other-number}
 use Rattle.meaning.specs.Laws.ColumnLaws.{room-passed, layout-passed, verification-says, verification-passed}
 use Rattle.meaning.specs.Laws.PathLaws.{mark-path, mark-least, path-small}
 use Rattle.meaning.specs.Laws.RootLaws.{every-in}
@@ -150,22 +149,6 @@ module _ (ns ps : List ℕ) (laid : All ns ps (WellLaid ns ps)) where
         let empty : eqb (nodeCount ns) 0 ≡ true = eq-eqb (nodeCount ns) 0 (omega arith) in
         rw empty (λ fine. refl, λ e i small. absurd (omega arith))
   ]
-
--- ---- a test that says one number: 0, or it
-one-number : {r : Refusal} {n : ℕ} → Says r (n ∷ []) → (r .number ≡ 0 → ⊥) → r .number ≡ n
-one-number {r} {n} s h = eqb-true (r .number) n (go (eqb (r .number) 0) refl (eqb (r .number) n) (s .within))
-  where
-    go : (a : Bool) → eqb (r .number) 0 ≡ a → (b : Bool) → (a || (b || false)) ≡ true → b ≡ true
-    go true e b k = absurd (h (eqb-true (r .number) 0 e))
-    go false e true k = refl
-    go false e false k = k
-
--- exactly one of two answers: a test's 0 is a definition's yes, so its one number is the no
-other-number : {r : Refusal} {n : ℕ} {b : Bool} → Says r (suc n ∷ []) → ((r .number ≡ 0) ↔ (b ≡ true)) → (r .number ≡ suc n) ↔ (b ≡ false)
-other-number {r} {n} {b} s e = (
-  λ h. not-true b (λ t. omega (arith, h, e .1 t)),
-  λ f. one-number s (λ z. true-false (e .0 z) f),
-)
 
 module _ (ns ps : List ℕ) where
   pub verifies-as-walked : layout ns ps .number ≡ 0 → (verification ns ps .number ≡ 0) ↔ (verifyExpr ns ps ≡ true)

@@ -30,7 +30,8 @@ returns c =
     let s = c .before .before .before .before .before in
     let ns = s .args .nodes .now in
     let i = s .args .i in
-    let leaf : ltb variableWord (kindAt ns i) ≡ false = le-ltb variableWord (kindAt ns i) (omega arith) in
+    let kind = c .before .before .kind-of in
+    let leaf : ltb variableWord (kindAt ns i) ≡ false = le-ltb variableWord (kindAt ns i) (omega (arith, kind .ensures)) in
     rw leaf
 
 first-of-requires : tie.Need-first-of-requires
@@ -56,7 +57,8 @@ part-result-end-2 c =
     let s = c .before .before .before .before .before .before in
     let ns = s .args .nodes .now in
     let i = s .args .i in
-    let parent : variableWord < kindAt ns i = omega arith in
+    let kind = c .before .before .before .kind-of in
+    let parent : variableWord < kindAt ns i = omega (arith, kind .ensures) in
     let part : firstAt ns i + countAt ns i ≤ length (s .args .pool .now) = s .pre .1 parent in
     omega (arith, part, c .before .first-of .ensures .0, c .count-of .ensures .0)
 
@@ -66,7 +68,8 @@ returns-2 c =
     let s = c .before .before .before .before .before .before .before in
     let ns = s .args .nodes .now in
     let i = s .args .i in
-    let parent : ltb variableWord (kindAt ns i) ≡ true = lt-ltb variableWord (kindAt ns i) (omega arith) in
+    let kind = c .before .before .before .before .kind-of in
+    let parent : ltb variableWord (kindAt ns i) ≡ true = lt-ltb variableWord (kindAt ns i) (omega (arith, kind .ensures)) in
     let size : firstAt ns i + countAt ns i - firstAt ns i ≡ countAt ns i = omega arith in
     rw (parent, c .before .before .first-of .ensures .0, c .before .count-of .ensures .0, size)
 

@@ -22,8 +22,11 @@ returns c =
     let s = c .before .before .before .before .before .before in
     let ns = s .args .nodes .now in
     let i = s .args .i in
+    let kind = c .before .before .before .kind-of in
+    let count = c .before .before .count-of in
     let counted : mayHave (kindOf (kindAt ns i)) (countAt ns i) ≡ false =
-    rw (← c .before .before .before .kind-of .ensures, ← c .before .before .count-of .ensures .0) (told-no (c .before .may-have .ensures) (c .if1 .taken)) in
+    rw (← kind .ensures, ← count .ensures .0)
+    (told-no (c .before .may-have .ensures) (c .if1 .taken)) in
     rw counted
 
 first-of-requires : tie.Need-first-of-requires
@@ -37,9 +40,12 @@ returns-2 c =
     let s = c .before .before .before .before .before .before .before .before in
     let ns = s .args .nodes .now in
     let i = s .args .i in
+    let kind = c .before .before .before .before .before .kind-of in
+    let count = c .before .before .before .before .count-of in
     let counted : mayHave (kindOf (kindAt ns i)) (countAt ns i) ≡ true =
-    rw (← c .before .before .before .before .before .kind-of .ensures, ← c .before .before .before .before .count-of .ensures .0) (told-yes (c .before .before .before .may-have .ensures) (c .before .before .if1 .left)) in
-    c .first-fits .ensures ∙ rw (counted, c .before .before .before .before .before .kind-of .ensures, c .before .before .before .before .count-of .ensures .0, c .before .first-of .ensures .0)
+    rw (← kind .ensures, ← count .ensures .0)
+    (told-yes (c .before .before .before .may-have .ensures) (c .before .before .if1 .left)) in
+    c .first-fits .ensures ∙ rw (counted, kind .ensures, count .ensures .0, c .before .first-of .ensures .0)
 
 pub laid-out-spec : {M : Type 1} → statement M
 laid-out-spec =

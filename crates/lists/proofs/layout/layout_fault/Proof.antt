@@ -24,7 +24,8 @@ returns c =
     let ns = s .args .nodes .now in
     let ps = s .args .pool .now in
     let i = s .args .i in
-    let unknown : ltb cycleWord (kindAt ns i) ≡ true = lt-ltb cycleWord (kindAt ns i) (omega (arith, c .before .kind-of .ensures)) in
+    let kind = c .before .kind-of in
+    let unknown : ltb cycleWord (kindAt ns i) ≡ true = lt-ltb cycleWord (kindAt ns i) (omega (arith, kind .ensures)) in
     rw unknown
 
 laid-out-requires : tie.Need-laid-out-requires
@@ -37,7 +38,8 @@ returns-2 c =
     let ns = s .args .nodes .now in
     let ps = s .args .pool .now in
     let i = s .args .i in
-    let known : ltb cycleWord (kindAt ns i) ≡ false = le-ltb cycleWord (kindAt ns i) (omega (arith, c .before .before .before .kind-of .ensures)) in
+    let kind = c .before .before .before .kind-of in
+    let known : ltb cycleWord (kindAt ns i) ≡ false = le-ltb cycleWord (kindAt ns i) (omega (arith, kind .ensures)) in
     let broken : laidOut ns ps i ≡ false = told-no (c .before .laid-out .ensures) (c .if2 .taken) in
     rw (known, broken)
 
@@ -47,7 +49,8 @@ children-of-requires c κs =
     let ns = s .args .nodes .now in
     let ps = s .args .pool .now in
     let i = s .args .i in
-    let laid : laidOut ns ps i ≡ true = told-yes (c .before .laid-out .ensures) (c .if2 .left) in
+    let laid : laidOut ns ps i ≡ true =
+    told-yes (c .before .laid-out .ensures) (c .if2 .left) in
     let part : PartFits ns ps i = laid-part ns ps i laid in
     (s .pre, part)
 
@@ -61,10 +64,13 @@ returns-3 c =
     let ns = s .args .nodes .now in
     let ps = s .args .pool .now in
     let i = s .args .i in
-    let known : ltb cycleWord (kindAt ns i) ≡ false = le-ltb cycleWord (kindAt ns i) (omega (arith, c .before .before .before .before .before .before .kind-of .ensures)) in
-    let laid : laidOut ns ps i ≡ true = told-yes (c .before .before .before .before .laid-out .ensures) (c .before .before .before .if2 .left) in
+    let kind = c .before .before .before .before .before .before .kind-of in
+    let known : ltb cycleWord (kindAt ns i) ≡ false = le-ltb cycleWord (kindAt ns i) (omega (arith, kind .ensures)) in
+    let laid : laidOut ns ps i ≡ true =
+    told-yes (c .before .before .before .before .laid-out .ensures) (c .before .before .before .if2 .left) in
     let below : childrenBelow ns ps i ≡ false =
-    ap (every (λ k. ltb k i)) (sym (c .before .before .children-of .ensures)) ∙ told-no (c .before .all-below .ensures) (c .if3 .taken) in
+    ap (every (λ k. ltb k i)) (sym (c .before .before .children-of .ensures))
+    ∙ told-no (c .before .all-below .ensures) (c .if3 .taken) in
     rw (known, laid, below)
 
 returns-4 : tie.Need-returns-4
@@ -74,10 +80,13 @@ returns-4 c =
     let ns = s .args .nodes .now in
     let ps = s .args .pool .now in
     let i = s .args .i in
-    let known : ltb cycleWord (kindAt ns i) ≡ false = le-ltb cycleWord (kindAt ns i) (omega (arith, c .before .before .before .before .before .before .kind-of .ensures)) in
-    let laid : laidOut ns ps i ≡ true = told-yes (c .before .before .before .before .laid-out .ensures) (c .before .before .before .if2 .left) in
+    let kind = c .before .before .before .before .before .before .kind-of in
+    let known : ltb cycleWord (kindAt ns i) ≡ false = le-ltb cycleWord (kindAt ns i) (omega (arith, kind .ensures)) in
+    let laid : laidOut ns ps i ≡ true =
+    told-yes (c .before .before .before .before .laid-out .ensures) (c .before .before .before .if2 .left) in
     let below : childrenBelow ns ps i ≡ true =
-    ap (every (λ k. ltb k i)) (sym (c .before .before .children-of .ensures)) ∙ told-yes (c .before .all-below .ensures) (c .if3 .left) in
+    ap (every (λ k. ltb k i)) (sym (c .before .before .children-of .ensures))
+    ∙ told-yes (c .before .all-below .ensures) (c .if3 .left) in
     rw (known, laid, below)
 
 pub layout-fault-spec : {M : Type 1} → statement M

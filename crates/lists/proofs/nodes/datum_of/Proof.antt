@@ -18,8 +18,9 @@ returns : tie.Need-returns
 unfolding datumAt
 returns c =
     let s = c .before .before .before in
+    let read = c .before .kind-of in
     let kind : ℕ = kindAt (s .args .nodes .now) (s .args .i) in
-    let parent : ltb variableWord kind ≡ true = lt-ltb variableWord kind (omega (arith, c .before .kind-of .ensures)) in
+    let parent : ltb variableWord kind ≡ true = lt-ltb variableWord kind (omega (arith, read .ensures)) in
     rw parent
 
 first-of-requires : tie.Need-first-of-requires
@@ -29,9 +30,10 @@ returns-2 : tie.Need-returns-2
 unfolding datumAt
 returns-2 c =
     let s = c .before .before .before .before .before in
+    let read = c .before .before .before .kind-of in
     let kind : ℕ = kindAt (s .args .nodes .now) (s .args .i) in
-    let leaf : ltb variableWord kind ≡ false = le-ltb variableWord kind (omega (arith, c .before .before .before .kind-of .ensures)) in
-    let other : eqb kind programWord ≡ false = ne-eqb kind programWord (λ e. c .if2 .taken (c .before .before .before .kind-of .ensures ∙ e)) in
+    let leaf : ltb variableWord kind ≡ false = le-ltb variableWord kind (omega (arith, read .ensures)) in
+    let other : eqb kind programWord ≡ false = ne-eqb kind programWord (λ e. c .if2 .taken (read .ensures ∙ e)) in
     rw (leaf, other) (c .before .first-of .ensures .0)
 
 count-of-requires : tie.Need-count-of-requires
@@ -44,9 +46,10 @@ returns-3 : tie.Need-returns-3
 unfolding datumAt
 returns-3 c =
     let s = c .before .before .before .before .before .before .before in
+    let read = c .before .before .before .before .before .kind-of in
     let kind : ℕ = kindAt (s .args .nodes .now) (s .args .i) in
-    let leaf : ltb variableWord kind ≡ false = le-ltb variableWord kind (omega (arith, c .before .before .before .before .before .kind-of .ensures)) in
-    let program : eqb kind programWord ≡ true = eq-eqb kind programWord (sym (c .before .before .before .before .before .kind-of .ensures) ∙ c .before .before .if2 .left) in
+    let leaf : ltb variableWord kind ≡ false = le-ltb variableWord kind (omega (arith, read .ensures)) in
+    let program : eqb kind programWord ≡ true = eq-eqb kind programWord (sym (read .ensures) ∙ c .before .before .if2 .left) in
     c .from-halves .ensures ∙ rw (leaf, program, c .before .before .before .first-of .ensures .0, c .before .count-of .ensures .0)
 
 pub datum-of-spec : {M : Type 1} → statement M

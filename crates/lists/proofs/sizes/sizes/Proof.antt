@@ -19,7 +19,10 @@ first-refusal-requires c κs = search needs
 
 returns : tie.Need-returns
 unfolding sizes
-returns c = c .first-refusal .ensures ∙ rw (c .before .before .before .require .ensures, c .before .require2 .ensures, c .before .before .within-limits .ensures)
+returns c =
+    let aligned = c .before .before .before .require .ensures in
+    let within = c .before .require2 .ensures in
+    c .first-refusal .ensures ∙ rw (aligned, within, c .before .before .within-limits .ensures)
 
 pub sizes-spec : {M : Type 1} → statement M
 sizes-spec =
