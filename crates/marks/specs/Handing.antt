@@ -1,7 +1,7 @@
 -- What one node does to the marks of its children. The definition in meaning's Rules/Reach looks from a node up to its
 -- parents; code goes from the root down, and each reached node hands its mark on.
 use Prim.Native.Nat.{ℕ, zero, suc, _+_, _*_, _≤_, _<_}
-use mathlib.Core.Path.{_≡_, refl, sym, ap, subst, _∙_}
+use mathlib.Core.Path.{_≡_, refl, sym, ap, _∙_}
 use mathlib.Core.List.{List, [], _∷_}
 use mathlib.Core.Bool.{Bool, true, false, cond}
 use native.Mathlib.Omega.{arith}

@@ -1,8 +1,8 @@
 -- Shapes as the code keeps them: column SHAPE of a node's row holds the shape's code (Rules/Evaluable, `shapeCode`).
 use Prim.Native.Nat.{ℕ, zero, suc, _+_, _*_, _≤_, _<_}
-use mathlib.Core.Path.{_≡_, refl, sym, ap, ap₂, subst, _∙_}
+use mathlib.Core.Path.{_≡_, refl, ap}
 use mathlib.Core.List.{List, [], _∷_}
-use mathlib.Core.Bool.{Bool, true, false, cond, not, _&&_, _||_}
+use mathlib.Core.Bool.{Bool, true, cond, not, _&&_, _||_}
 use native.Mathlib.Omega.{arith}
 use lib.ListN.{length, getD}
 use lib.Dec.{ltb, eqb}
@@ -17,7 +17,7 @@ use Rattle.meaning.specs.Rules.Refusals.{every}
 use Rattle.meaning.specs.Rules.Reach.{markOf}
 use Rattle.meaning.specs.Rules.Evaluable.{Shape, isBit, isLogic, shapeCode, nthShape, shapeStep, shape, shapes, fits, isRoot, shapeFault}
 use Rattle.meaning.specs.Claims.Column.{WellLaid}
-use Rattle.lists.specs.Laid.{Laid, children-below}
+use Rattle.lists.specs.Laid.{children-below}
 use Rattle.columns.specs.Columns.{place, cell, shapeColumn, Column}
 
 -- every child's row lies in the work space

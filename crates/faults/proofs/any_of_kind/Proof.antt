@@ -1,7 +1,7 @@
-use mathlib.Core.Path.{_≡_, refl, sym, ap, subst, _∙_}
-use mathlib.Core.Bool.{Bool, false, true}
+use mathlib.Core.Path.{_≡_, refl, sym, ap, _∙_}
+use mathlib.Core.Bool.{Bool}
 use mathlib.Core.List.{List}
-use Prim.Native.Nat.{ℕ, _≤_, _<_, _-_}
+use Prim.Native.Nat.{ℕ, _≤_, _-_}
 use lib.ListN.{length, drop, getD}
 use lib.Dec.{eqb}
 use borrow.Author.Tests.{eq-eqb, ne-eqb}
@@ -10,7 +10,7 @@ use native.Mathlib.Omega.{arith}
 use Rattle.meaning.specs.Rules.Refusals.{some}
 use Rattle.meaning.specs.Rules.Trees.{kindWord, kindAt}
 use Rattle.lists.specs.Scan.{some-stop, some-more, some-done}
-use Rattle.faults.specs.Leaves.{leaves, some-leaves}
+use Rattle.faults.specs.Leaves.{some-leaves}
 use Rattle.faults.proofs.any_of_kind.Statement.{statement}
 use Rattle.faults.proofs.any_of_kind.Tie as tie
 use Rattle.faults.proofs.any_of_kind.Reads as reads
@@ -54,7 +54,7 @@ returns c =
     let kind : ℕ = s .args .kind in
     let test : ℕ → Bool = λ k. eqb (kindAt ns k) kind in
     let read : c .before .kind-of .result ≡ kindAt ns (getD ks (l .at) 0) = c .before .kind-of .ensures ∙ ap (kindAt ns) (c .before .before .wide .ensures .0) in
-    sym (some-stop 0 test ks (l .at) (omega arith) (eq-eqb (kindAt ns (getD ks (l .at) 0)) kind (sym read ∙ c .if1 .taken))) ∙ l .inv .2 ∙ sym (some-leaves ns (λ t. eqb (kindWord t) kind) ks)
+    sym (some-stop 0 test ks (l .at) (omega arith) (eq-eqb (kindAt ns (getD ks (l .at) 0)) kind (omega (arith, read, c .if1 .taken)))) ∙ l .inv .2 ∙ sym (some-leaves ns (λ t. eqb (kindWord t) kind) ks)
 
 -- src/lib.rt:111:9
 add-at : tie.Need-add-at Inv-loop μ-loop
@@ -76,7 +76,7 @@ loop-again c =
     let read : c .before .kind-of .result ≡ kindAt ns (getD ks (l .at) 0) = c .before .kind-of .ensures ∙ ap (kindAt ns) (c .before .before .wide .ensures .0) in (
       omega arith,
       l .inv .1,
-      some-more 0 test ks (l .at) (omega arith) (ne-eqb (kindAt ns (getD ks (l .at) 0)) kind (λ e. c .if1 .left (read ∙ e))) ∙ l .inv .2,
+      some-more 0 test ks (l .at) (omega arith) (ne-eqb (kindAt ns (getD ks (l .at) 0)) kind (λ e. omega (arith, read, c .if1 .left, e))) ∙ l .inv .2,
     )
 
 -- src/lib.rt:107:1

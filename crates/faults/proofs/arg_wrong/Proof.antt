@@ -1,15 +1,15 @@
-use mathlib.Core.Path.{_≡_, refl, sym, ap, subst, _∙_}
-use mathlib.Core.Bool.{Bool, false, true}
+use mathlib.Core.Path.{_≡_, sym, ap, _∙_}
+use mathlib.Core.Bool.{false, true}
 use mathlib.Core.List.{List}
-use Prim.Native.Nat.{ℕ, _≤_, _<_, _-_}
+use Prim.Native.Nat.{ℕ, _<_, _-_}
 use lib.ListN.{length, getD}
 use lib.Dec.{eqb, leb}
 use borrow.Author.Tests.{eq-eqb, ne-eqb}
 use borrow.Author.Needs.{needs}
 use native.Mathlib.Omega.{arith}
-use Rattle.meaning.specs.Rules.Trees.{kindAt, datumAt, nodeCount}
+use Rattle.meaning.specs.Rules.Trees.{kindAt, datumAt}
 use Rattle.meaning.specs.Rules.Kinds.{programWord}
-use Rattle.faults.specs.Leaves.{leaves, arg-words, arg-none}
+use Rattle.faults.specs.Leaves.{arg-words, arg-none}
 use Rattle.faults.proofs.arg_wrong.Statement.{statement}
 use Rattle.faults.proofs.arg_wrong.Tie as tie
 use Rattle.faults.proofs.arg_wrong.Reads as reads
@@ -46,7 +46,7 @@ returns-2 c =
     let any : 0 < length ks = omega arith in
     let first : c .before .before .wide .result ≡ getD ks 0 0 = c .before .before .wide .ensures .0 in
     let kind : c .before .kind-of .result ≡ kindAt ns (getD ks 0 0) = c .before .kind-of .ensures ∙ ap (kindAt ns) first in
-    let other : eqb (kindAt ns (getD ks 0 0)) programWord ≡ false = ne-eqb (kindAt ns (getD ks 0 0)) programWord (λ e. c .if2 .taken (kind ∙ e)) in
+    let other : eqb (kindAt ns (getD ks 0 0)) programWord ≡ false = ne-eqb (kindAt ns (getD ks 0 0)) programWord (λ e. omega (arith, kind, c .if2 .taken, e)) in
     sym (arg-words ns depth ks any ∙ rw other)
 
 -- src/lib.rt:92:14
@@ -63,7 +63,7 @@ returns-3 c =
     let any : 0 < length ks = omega arith in
     let first : c .before .before .before .wide .result ≡ getD ks 0 0 = c .before .before .before .wide .ensures .0 in
     let kind : c .before .before .kind-of .result ≡ kindAt ns (getD ks 0 0) = c .before .before .kind-of .ensures ∙ ap (kindAt ns) first in
-    let program : eqb (kindAt ns (getD ks 0 0)) programWord ≡ true = eq-eqb (kindAt ns (getD ks 0 0)) programWord (sym kind ∙ c .before .if2 .left) in
+    let program : eqb (kindAt ns (getD ks 0 0)) programWord ≡ true = eq-eqb (kindAt ns (getD ks 0 0)) programWord (omega (arith, kind, c .before .if2 .left)) in
     let value : c .datum-of .result ≡ datumAt ns (getD ks 0 0) = c .datum-of .ensures ∙ ap (datumAt ns) first in
     ap (leb depth) value ∙ sym (arg-words ns depth ks any ∙ rw program)
 

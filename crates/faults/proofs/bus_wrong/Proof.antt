@@ -1,6 +1,5 @@
-use mathlib.Core.Path.{_≡_, refl, sym, ap, subst, _∙_}
-use Prim.Native.Nat.{ℕ}
-use mathlib.Core.Bool.{Bool, false, true, _||_}
+use mathlib.Core.Path.{_≡_, sym, _∙_}
+use mathlib.Core.Bool.{false, true}
 use mathlib.Core.List.{List}
 use Rattle.meaning.specs.Rules.Verification.{isProgram, isBus}
 use Rattle.meaning.specs.Rules.Refusals.{some}

@@ -1,16 +1,16 @@
-use mathlib.Core.Path.{_≡_, refl, sym, ap, ap₂, subst, _∙_}
-use mathlib.Core.Bool.{Bool, false, true, not}
+use mathlib.Core.Path.{_≡_, sym, ap, _∙_}
+use mathlib.Core.Bool.{false, true, not}
 use mathlib.Core.List.{List}
-use Prim.Native.Nat.{ℕ, _≤_, _<_, _-_, _^_}
+use Prim.Native.Nat.{ℕ, _<_, _-_, _^_}
 use lib.ListN.{length, getD}
 use lib.Dec.{eqb}
 use borrow.Author.Tests.{eq-eqb, ne-eqb}
 use borrow.Author.Needs.{needs}
 use native.Mathlib.Omega.{arith}
 use Rattle.meaning.specs.Rules.Tables.{tableFits}
-use Rattle.meaning.specs.Rules.Trees.{kindAt, datumAt, nodeCount}
+use Rattle.meaning.specs.Rules.Trees.{kindAt, datumAt}
 use Rattle.meaning.specs.Rules.Kinds.{programWord}
-use Rattle.faults.specs.Leaves.{leaves, lut-words, lut-none, lut-other}
+use Rattle.faults.specs.Leaves.{lut-words, lut-none, lut-other}
 use Rattle.faults.proofs.lut_wrong.Statement.{statement}
 use Rattle.faults.proofs.lut_wrong.Tie as tie
 use Rattle.faults.proofs.lut_wrong.Reads as reads
@@ -47,7 +47,7 @@ returns-2 c =
     let any : 0 < length ks = omega arith in
     let first : c .before .before .wide .result ≡ getD ks 0 0 = c .before .before .wide .ensures .0 in
     let kind : c .before .kind-of .result ≡ kindAt ns (getD ks 0 0) = c .before .kind-of .ensures ∙ ap (kindAt ns) first in
-    let other : eqb (kindAt ns (getD ks 0 0)) programWord ≡ false = ne-eqb (kindAt ns (getD ks 0 0)) programWord (λ e. c .if2 .taken (kind ∙ e)) in
+    let other : eqb (kindAt ns (getD ks 0 0)) programWord ≡ false = ne-eqb (kindAt ns (getD ks 0 0)) programWord (λ e. omega (arith, kind, c .if2 .taken, e)) in
     sym (lut-other ns ks any other)
 
 -- src/lib.rt:76:20
@@ -71,7 +71,7 @@ returns-3 c =
     let any : 0 < length ks = omega arith in
     let first : c .before .before .before .before .wide .result ≡ getD ks 0 0 = c .before .before .before .before .wide .ensures .0 in
     let kind : c .before .before .before .kind-of .result ≡ kindAt ns (getD ks 0 0) = c .before .before .before .kind-of .ensures ∙ ap (kindAt ns) first in
-    let program : eqb (kindAt ns (getD ks 0 0)) programWord ≡ true = eq-eqb (kindAt ns (getD ks 0 0)) programWord (sym kind ∙ c .before .before .if2 .left) in
+    let program : eqb (kindAt ns (getD ks 0 0)) programWord ≡ true = eq-eqb (kindAt ns (getD ks 0 0)) programWord (omega (arith, kind, c .before .before .if2 .left)) in
     let value : c .before .datum-of .result ≡ datumAt ns (getD ks 0 0) = c .before .datum-of .ensures ∙ ap (datumAt ns) first in
     let word : datumAt ns (getD ks 0 0) < 2 ^ 64 = omega (arith, value) in
     let fits : c .table-fits .result ≡ tableFits (datumAt ns (getD ks 0 0)) (length ks - 1) = c .table-fits .ensures ∙ ap (λ (d : ℕ). tableFits d (length ks - 1)) value in

@@ -1,8 +1,7 @@
-use mathlib.Core.Path.{_≡_, refl, sym, ap, ap₂, subst, _∙_}
-use mathlib.Core.Bool.{Bool, false, true}
+use mathlib.Core.Path.{_≡_, sym, ap, ap₂, _∙_}
+use mathlib.Core.Bool.{false, true}
 use mathlib.Core.List.{List}
 use Prim.Native.Nat.{ℕ, _≤_, _<_, _-_}
-use lib.ListN.{length, getD}
 use borrow.Author.Needs.{needs}
 use native.Mathlib.Omega.{arith}
 use Rattle.meaning.specs.Rules.Verification.{wrong}
@@ -10,7 +9,7 @@ use Rattle.meaning.specs.Rules.Reach.{markOf}
 use Rattle.meaning.specs.Rules.Trees.{kindAt, childrenAt, nodeCount}
 use Rattle.meaning.specs.Rules.Kinds.{kindOf}
 use Rattle.lists.specs.Laid.{part-fits}
-use Rattle.faults.specs.Leaves.{leaves, AreNodes, are-nodes, fault-unreached, fault-reached}
+use Rattle.faults.specs.Leaves.{leaves, are-nodes, fault-unreached, fault-reached}
 use Rattle.faults.proofs.verify_fault.Statement.{statement}
 use Rattle.faults.proofs.verify_fault.Tie as tie
 use Rattle.faults.proofs.verify_fault.Reads as reads

@@ -1,16 +1,16 @@
-use Prim.Native.Nat.{suc, ℕ, _≤_, _<_, _+_, _*_}
+use Prim.Native.Nat.{suc, ℕ, _<_, _+_}
 use Rattle.meaning.specs.Rules.Kinds.{cycleWord}
 use lib.Dec.{eqb}
 use mathlib.Core.Bool.{cond}
-use mathlib.Core.Path.{_≡_, refl, sym, ap, ap₂, subst, _∙_}
+use mathlib.Core.Path.{_≡_, sym, ap₂, _∙_}
 use mathlib.Core.List.{List}
-use lib.ListN.{length, getD}
+use lib.ListN.{length}
 use borrow.Author.Needs.{needs}
 use native.Mathlib.Omega.{arith}
-use Rattle.meaning.specs.Rules.Trees.{kindAt, childrenAt}
+use Rattle.meaning.specs.Rules.Trees.{childrenAt}
 use Rattle.lists.specs.Laid.{part-fits}
-use Rattle.columns.specs.Columns.{place, cell, markColumn}
-use Rattle.marks.specs.Handing.{lowered, handedOn, turn, turn-reached, turn-unreached}
+use Rattle.columns.specs.Columns.{cell, markColumn}
+use Rattle.marks.specs.Handing.{lowered, handedOn, turn-reached, turn-unreached}
 use Rattle.marks.proofs.hand_on.Statement.{statement}
 use Rattle.marks.proofs.hand_on.Tie as tie
 use Rattle.marks.proofs.hand_on.Reads as reads

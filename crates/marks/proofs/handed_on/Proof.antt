@@ -1,7 +1,10 @@
 use borrow.Author.Tests.{eq-eqb, ne-eqb}
 use Rattle.meaning.specs.Rules.Kinds.{cycleWord}
+use lib.Dec.{eqb}
+use mathlib.Core.Path.{_≡_, sym, _∙_}
+use mathlib.Core.Bool.{cond}
+use Prim.Native.Nat.{ℕ, suc}
 use native.Mathlib.Numerals.{add-one}
-use native.Mathlib.Omega.{arith}
 use borrow.Author.Needs.{needs}
 use Rattle.marks.proofs.handed_on.Statement.{statement}
 use Rattle.marks.proofs.handed_on.Tie as tie
@@ -16,11 +19,19 @@ add-result c = search needs
 returns : tie.Need-returns
 returns c =
     let s = c .before in
-    rw (eq-eqb (s .args .kind) cycleWord (c .if1 .taken), add-one (s .args .mark))
+    let kind : ℕ = s .args .kind in
+    let mark : ℕ = s .args .mark in
+    let counted : cond (eqb kind cycleWord) (suc mark) mark ≡ suc mark = rw (eq-eqb kind cycleWord (c .if1 .taken)) in
+    add-one mark ∙ sym counted
 
 -- src/lib.rt:89:1
 returns-2 : tie.Need-returns-2
-returns-2 c = rw (ne-eqb (c .before .args .kind) cycleWord (c .if1 .left))
+returns-2 c =
+    let s = c .before in
+    let kind : ℕ = s .args .kind in
+    let mark : ℕ = s .args .mark in
+    let passed : cond (eqb kind cycleWord) (suc mark) mark ≡ mark = rw (ne-eqb kind cycleWord (c .if1 .left)) in
+    sym passed
 
 pub handed-on-spec : {M : Type 1} → statement M
 handed-on-spec = tie.close (tie.spec add-result returns returns-2)

@@ -1,9 +1,9 @@
-use mathlib.Core.Path.{_≡_, refl, sym, ap, ap₂, subst, _∙_}
+use mathlib.Core.Path.{_≡_, refl, sym, ap, ap₂, _∙_}
 use mathlib.Core.List.{List}
-use Prim.Native.Nat.{ℕ, _≤_, _<_, _-_, _+_, _*_}
+use Prim.Native.Nat.{ℕ, _≤_, _-_, _+_}
 use native.Mathlib.Omega.{arith}
 use borrow.Author.Needs.{needs}
-use lib.ListN.{length, getD, drop, set, length-set}
+use lib.ListN.{length, getD, drop, set}
 use Rattle.meaning.specs.Rules.Reach.{nearer}
 use Rattle.columns.specs.Columns.{place, cell, markColumn}
 use Rattle.marks.specs.Handing.{lowerOne, lowered, lowered-more, lowered-done}

@@ -1,7 +1,6 @@
-use mathlib.Core.Path.{_≡_, sym}
+use mathlib.Core.Path.{sym}
 use native.Mathlib.Omega.{arith}
 use Rattle.marks.specs.Handing.{nearer-none, nearer-first, nearer-second}
-use borrow.Author.Needs.{needs}
 use Rattle.marks.proofs.nearer.Statement.{statement}
 use Rattle.marks.proofs.nearer.Tie as tie
 use Rattle.marks.proofs.nearer.Reads as reads

@@ -40,7 +40,7 @@ returns c =
     let base : ℕ = s .args .base in
     let work : List ℕ = s .args .work .now in
     let first : c .before .before .before .before .verified .result ≡ toSix ns ps = c .before .before .before .before .verified .ensures .0 in
-    let refused : toSix ns ps .number ≢ 0 = λ e. c .if1 .taken (ap (λ (r : Refusal). r .number) first ∙ e) in
+    let refused : toSix ns ps .number ≢ 0 = λ e. omega (arith, c .if1 .taken, ap (λ (r : Refusal). r .number) first, e) in
     (first ∙ sound-stops ns ps refused, c .before .before .before .before .verified .ensures .1 ∙ sym (sound-refused ns ps base work refused))
 
 -- src/lib.rt:62:8

@@ -3,6 +3,7 @@ use mathlib.Core.Logic.{_≢_}
 use mathlib.Core.List.{List}
 use Prim.Native.Nat.{ℕ}
 use borrow.Author.Needs.{needs}
+use native.Mathlib.Omega.{arith}
 use Rattle.meaning.specs.Laws.NumberLaws.{then-go, then-stop}
 use Rattle.meaning.specs.Rules.Refusals.{_then_}
 use Rattle.meaning.specs.Rules.Verification.{verification}
@@ -36,7 +37,7 @@ returns c =
     let base : ℕ = s .args .base in
     let work : List ℕ = s .args .work .now in
     let first : c .before .before .lowest-fault .result ≡ layout ns ps = c .before .before .lowest-fault .ensures ∙ layout-search ns ps in
-    let refused : layout ns ps .number ≢ 0 = λ e. c .if1 .taken (ap (λ (r : Refusal). r .number) first ∙ e) in (
+    let refused : layout ns ps .number ≢ 0 = λ e. omega (arith, c .if1 .taken, ap (λ (r : Refusal). r .number) first, e) in (
       first ∙ sym (then-stop (layout ns ps) (verification ns ps) refused),
       sym (verified-refused ns ps base work refused),
     )

@@ -37,7 +37,7 @@ returns c =
     let ps : List ℕ = s .args .pool .now in
     let work : List ℕ = s .args .work .now in
     let first : c .before .before .sizes .result ≡ sizes ns ps = c .before .before .sizes .ensures in
-    let refused : sizes ns ps .number ≢ 0 = λ e. c .if1 .taken (ap (λ (r : Refusal). r .number) first ∙ e) in
+    let refused : sizes ns ps .number ≢ 0 = λ e. omega (arith, c .if1 .taken, ap (λ (r : Refusal). r .number) first, e) in
     ap (λ (r : Refusal). verified r work) first ∙ refused-sizes ns ps work refused
 
 -- src/lib.rt:41:21
@@ -67,7 +67,7 @@ returns-2 c =
     let within : (nodeCount ns ≤ mostNodes) × (length ps ≤ mostPool) = sizes-within ns ps sized in
     let asked : c .before .before .before .work-for .result ≡ workFor ns ps = c .before .before .before .work-for .ensures in
     let second : c .before .before .room .result ≡ room (workFor ns ps) (length work) = c .before .before .room .ensures ∙ ap (λ (n : ℕ). room n (length work)) asked in
-    let refused : room (workFor ns ps) (length work) .number ≢ 0 = λ e. c .if2 .taken (ap (λ (r : Refusal). r .number) second ∙ e) in
+    let refused : room (workFor ns ps) (length work) .number ≢ 0 = λ e. omega (arith, c .if2 .taken, ap (λ (r : Refusal). r .number) second, e) in
     ap (λ (r : Refusal). verified r work) second ∙ refused-room ns ps work sized refused
 
 -- src/lib.rt:45:9

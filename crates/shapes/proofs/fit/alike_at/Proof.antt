@@ -1,12 +1,11 @@
-use mathlib.Core.Path.{_≡_, refl, sym, ap, ap₂, subst, _∙_}
-use mathlib.Core.Bool.{Bool, false, true}
-use Prim.Native.Nat.{ℕ, _≤_, _<_, _+_}
+use mathlib.Core.Path.{_≡_, sym, ap₂, _∙_}
+use mathlib.Core.Bool.{true}
+use Prim.Native.Nat.{ℕ}
 use lib.Dec.{ltb, eqb}
 use borrow.Author.Tests.{lt-ltb}
 use borrow.Author.Needs.{needs}
 use native.Mathlib.Omega.{arith}
-use Rattle.meaning.specs.Rules.Evaluable.{Shape, shapeCode, nthShape}
-use Rattle.shapes.specs.Shapes.{Holds}
+use Rattle.meaning.specs.Rules.Evaluable.{shapeCode, nthShape}
 use Rattle.shapes.proofs.fit.alike_at.Statement.{statement}
 use Rattle.shapes.proofs.fit.alike_at.Tie as tie
 use Rattle.shapes.proofs.fit.alike_at.Reads as reads

@@ -1,13 +1,13 @@
-use mathlib.Core.Path.{_≡_, refl, sym, ap, subst, _∙_}
-use mathlib.Core.Bool.{Bool, false, true, cond}
+use mathlib.Core.Path.{_≡_, refl, sym, ap, _∙_}
+use mathlib.Core.Bool.{Bool, cond}
 use mathlib.Core.List.{List}
-use Prim.Native.Nat.{ℕ, _≤_, _<_, _-_, _+_}
+use Prim.Native.Nat.{ℕ, _-_}
 use lib.ListN.{length, drop}
 use lib.Dec.{eqb, ltb}
 use borrow.Author.Needs.{needs}
 use native.Mathlib.Omega.{arith}
 use Rattle.meaning.specs.Laws.BoolLaws.{told-no, told-yes}
-use Rattle.meaning.specs.Rules.Evaluable.{Shape, bit, shapeCode, nthShape}
+use Rattle.meaning.specs.Rules.Evaluable.{Shape, bit, nthShape}
 use Rattle.meaning.specs.Rules.Refusals.{every}
 use Rattle.lists.specs.Scan.{every-stop, every-more, every-done}
 use Rattle.shapes.specs.Shapes.{Holds, holds-length, stands}

@@ -1,13 +1,11 @@
-use mathlib.Core.Path.{_≡_, refl, sym, ap, ap₂, subst, _∙_}
-use mathlib.Core.Bool.{Bool, false, true}
-use Prim.Native.Nat.{ℕ, _≤_, _<_}
+use mathlib.Core.Path.{_≡_, refl, sym, ap, _∙_}
+use mathlib.Core.Bool.{true}
+use Prim.Native.Nat.{ℕ}
 use lib.Dec.{ltb}
-use borrow.Author.Needs.{needs}
 use native.Mathlib.Omega.{arith}
-use Rattle.meaning.specs.Rules.Evaluable.{Shape, shapeCode, nthShape, fits}
+use Rattle.meaning.specs.Rules.Evaluable.{fits}
 use Rattle.meaning.specs.Rules.Kinds.{kindOf}
 use Rattle.lists.specs.Cases.{range}
-use Rattle.shapes.specs.Shapes.{Holds}
 use Rattle.shapes.proofs.fit.fits.Statement.{statement}
 use Rattle.shapes.proofs.fit.fits.Tie as tie
 use Rattle.shapes.proofs.fit.fits.Reads as reads

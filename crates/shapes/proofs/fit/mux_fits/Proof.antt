@@ -1,11 +1,8 @@
-use mathlib.Core.Path.{_≡_, refl, sym, ap, ap₂, subst, _∙_}
-use mathlib.Core.Bool.{Bool, false, true}
-use Prim.Native.Nat.{ℕ, _≤_, _<_}
+use mathlib.Core.Path.{_≡_, sym, _∙_}
+use mathlib.Core.Bool.{false, true}
 use borrow.Author.Tests.{eq-eqb, ne-eqb}
-use borrow.Author.Needs.{needs}
 use native.Mathlib.Omega.{arith}
-use Rattle.meaning.specs.Rules.Evaluable.{Shape, shapeCode, nthShape, isBit}
-use Rattle.shapes.specs.Shapes.{Holds}
+use Rattle.meaning.specs.Rules.Evaluable.{shapeCode, nthShape, isBit}
 use Rattle.shapes.proofs.fit.mux_fits.Statement.{statement}
 use Rattle.shapes.proofs.fit.mux_fits.Tie as tie
 use Rattle.shapes.proofs.fit.mux_fits.Reads as reads

@@ -1,11 +1,10 @@
-use mathlib.Core.Path.{_≡_, refl, sym, ap, _∙_}
-use mathlib.Core.Bool.{Bool, false, true}
+use mathlib.Core.Path.{_≡_, ap}
+use mathlib.Core.Bool.{false, true}
 use mathlib.Core.List.{List}
-use Prim.Native.Nat.{ℕ, suc, _≤_, _<_, _+_}
+use Prim.Native.Nat.{ℕ, suc}
 use lib.Dec.{eqb}
 use borrow.Author.Tests.{eq-eqb, ne-eqb}
 use borrow.Author.Needs.{needs}
-use native.Mathlib.Numerals.{add-one}
 use native.Mathlib.Omega.{arith}
 use Rattle.meaning.specs.Rules.Trees.{nodeCount, kindAt}
 use Rattle.meaning.specs.Rules.Kinds.{programWord}
@@ -30,7 +29,7 @@ returns c =
     let s = c .before .before .before in
     let ns : List ℕ = s .args .nodes .now in
     let i : ℕ = s .args .i in
-    let inner : eqb (suc i) (nodeCount ns) ≡ false = ne-eqb (suc i) (nodeCount ns) (λ e. c .if1 .taken (add-one i ∙ e ∙ sym (c .before .node-count .ensures))) in
+    let inner : eqb (suc i) (nodeCount ns) ≡ false = ne-eqb (suc i) (nodeCount ns) (λ e. omega (arith, c .if1 .taken, c .before .node-count .ensures, e)) in
     rw inner
 
 -- src/fit.rt:67:5
@@ -43,7 +42,7 @@ returns-2 c =
     let s = c .before .before .before .before in
     let ns : List ℕ = s .args .nodes .now in
     let i : ℕ = s .args .i in
-    let root : eqb (suc i) (nodeCount ns) ≡ true = eq-eqb (suc i) (nodeCount ns) (sym (add-one i) ∙ c .before .if1 .left ∙ c .before .before .node-count .ensures) in
+    let root : eqb (suc i) (nodeCount ns) ≡ true = eq-eqb (suc i) (nodeCount ns) (omega (arith, c .before .if1 .left, c .before .before .node-count .ensures)) in
     let kind : eqb (c .kind-of .result) programWord ≡ eqb (kindAt ns i) programWord = ap (λ (k : ℕ). eqb k programWord) (c .kind-of .ensures) in
     rw root kind
 

@@ -1,18 +1,16 @@
-use mathlib.Core.Path.{_≡_, refl, sym, ap, subst, _∙_}
-use mathlib.Core.Bool.{Bool, false, true, not, _&&_}
+use mathlib.Core.Path.{_≡_, refl, sym, ap, _∙_}
+use mathlib.Core.Bool.{false, true, _&&_}
 use mathlib.Core.List.{List}
-use Prim.Native.Nat.{ℕ, suc, _≤_, _<_}
-use lib.ListN.{length, getD}
+use Prim.Native.Nat.{ℕ, _≤_, _<_}
 use lib.Dec.{eqb}
 use borrow.Author.Needs.{needs}
 use native.Mathlib.Omega.{arith}
 use Rattle.meaning.specs.Laws.BoolLaws.{told-no, told-yes}
 use Rattle.meaning.specs.Claims.Column.{WellLaid}
-use Rattle.meaning.specs.Rules.Evaluable.{Shape, fits, isRoot}
+use Rattle.meaning.specs.Rules.Evaluable.{fits, isRoot}
 use Rattle.meaning.specs.Rules.Reach.{markOf}
-use Rattle.meaning.specs.Rules.Trees.{nodeCount, kindAt, childrenAt}
+use Rattle.meaning.specs.Rules.Trees.{nodeCount, kindAt}
 use Rattle.meaning.specs.Rules.Kinds.{kindOf, programWord, cycleWord}
-use Rattle.meaning.specs.Rules.Limits.{workPerNode}
 use Rattle.lists.specs.Laid.{part-fits}
 use Rattle.shapes.specs.Shapes.{Holds, childShapes, children-hold, child-rows, unreached, reached}
 use Rattle.shapes.proofs.fit.shape_fault.Statement.{statement}

@@ -1,4 +1,3 @@
-use mathlib.Core.Path.{_≡_, refl}
 use Rattle.shapes.proofs.fit.stands.Statement.{statement}
 use Rattle.shapes.proofs.fit.stands.Tie as tie
 use Rattle.shapes.proofs.fit.stands.Reads as reads

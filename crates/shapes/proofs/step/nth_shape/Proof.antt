@@ -1,12 +1,9 @@
-use mathlib.Core.Path.{_≡_, refl, sym, ap, subst, _∙_}
-use mathlib.Core.List.{List}
-use Prim.Native.Nat.{ℕ, _≤_, _<_, _+_, _*_}
-use lib.ListN.{length, getD}
+use mathlib.Core.Path.{ap, _∙_}
+use Prim.Native.Nat.{ℕ, _+_}
 use borrow.Author.Needs.{needs}
 use native.Mathlib.Omega.{arith}
-use Rattle.meaning.specs.Rules.Evaluable.{Shape, shapeCode, nthShape}
 use Rattle.columns.specs.Columns.{cell, shapeColumn}
-use Rattle.shapes.specs.Shapes.{Holds, holds-nth, holds-none}
+use Rattle.shapes.specs.Shapes.{holds-nth, holds-none}
 use Rattle.shapes.proofs.step.nth_shape.Statement.{statement}
 use Rattle.shapes.proofs.step.nth_shape.Tie as tie
 use Rattle.shapes.proofs.step.nth_shape.Reads as reads

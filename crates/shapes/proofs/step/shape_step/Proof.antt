@@ -1,13 +1,11 @@
-use mathlib.Core.Path.{_≡_, refl, sym, ap, subst, _∙_}
-use mathlib.Core.List.{List}
-use Prim.Native.Nat.{ℕ, _≤_, _<_, _+_}
-use lib.ListN.{length}
+use mathlib.Core.Path.{_≡_, refl, sym, _∙_}
+use Prim.Native.Nat.{ℕ}
 use borrow.Author.Needs.{needs}
 use native.Mathlib.Omega.{arith}
-use Rattle.meaning.specs.Rules.Evaluable.{Shape, shapeCode, shapeStep}
+use Rattle.meaning.specs.Rules.Evaluable.{shapeCode, shapeStep}
 use Rattle.meaning.specs.Rules.Kinds.{kindOf}
 use Rattle.lists.specs.Cases.{range}
-use Rattle.shapes.specs.Shapes.{Holds, holds-length}
+use Rattle.shapes.specs.Shapes.{holds-length}
 use Rattle.shapes.proofs.step.shape_step.Statement.{statement}
 use Rattle.shapes.proofs.step.shape_step.Tie as tie
 use Rattle.shapes.proofs.step.shape_step.Reads as reads

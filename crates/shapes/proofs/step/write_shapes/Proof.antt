@@ -1,17 +1,17 @@
-use mathlib.Core.Path.{_≡_, refl, sym, ap, ap₂, subst, _∙_}
+use mathlib.Core.Path.{_≡_, sym, ap, ap₂, _∙_}
 use mathlib.Core.List.{List}
 use Prim.Native.Nat.{ℕ, _≤_, _<_, _-_, _+_, _*_}
-use lib.ListN.{length, getD, set}
+use lib.ListN.{length, set}
 use borrow.Author.Needs.{needs}
 use native.Mathlib.Omega.{arith}
 use Rattle.meaning.specs.Claims.Column.{WellLaid}
 use Rattle.meaning.specs.Rules.Evaluable.{shapeCode, shapeStep}
-use Rattle.meaning.specs.Rules.Trees.{nodeCount, kindAt, childrenAt}
+use Rattle.meaning.specs.Rules.Trees.{nodeCount, kindAt}
 use Rattle.meaning.specs.Rules.Kinds.{kindOf, cycleWord}
 use Rattle.meaning.specs.Rules.Limits.{workPerNode}
 use Rattle.lists.specs.Laid.{part-fits}
 use Rattle.columns.specs.ColumnLaws.{with-none, with-next, with-length, with-column}
-use Rattle.columns.specs.Columns.{place, cell, shapeColumn, Column, withColumn}
+use Rattle.columns.specs.Columns.{place, shapeColumn, Column, withColumn}
 use Rattle.shapes.specs.Shapes.{shapeAt, childShapes, shape-step, children-hold, child-rows}
 use Rattle.shapes.proofs.step.write_shapes.Statement.{statement}
 use Rattle.shapes.proofs.step.write_shapes.Tie as tie
