@@ -40,6 +40,10 @@ nearer-again zero b = refl
 nearer-again (suc a) zero = ap suc (omega arith)
 nearer-again (suc a) (suc b) = ap suc (omega arith)
 
+-- ---- at first the root alone, the last of n nodes, is reached
+abbrev pub onlyRoot : ℕ → ℕ → ℕ
+onlyRoot n i = cond (eqb (suc i) n) 1 0
+
 -- ---- a mark m handed on to each of a list of children
 abbrev pub lowerOne : ℕ → ℕ → ℕ → List ℕ → List ℕ
 lowerOne base m c work = set work (place markColumn (base + c)) (nearer m (cell work markColumn (base + c)))

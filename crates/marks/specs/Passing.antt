@@ -8,7 +8,7 @@ use mathlib.Core.Bool.{Bool, true, false, cond, _&&_}
 use native.Mathlib.Omega.{arith}
 use native.Mathlib.Nat.{zero-add, suc-add}
 use native.Mathlib.Decide.{decLt, ℕ-discrete}
-use lib.ListN.{length, getD, set, drop, drop-of-length-le}
+use lib.ListN.{length, getD, drop, drop-of-length-le}
 use lib.Seq.{drop-cons}
 use lib.Dec.{ltb, eqb}
 use borrow.Author.Tests.{lt-ltb, le-ltb, eq-eqb, ne-eqb, ltb-true}
@@ -19,9 +19,9 @@ use Rattle.meaning.specs.Rules.Refusals.{every, some}
 use Rattle.meaning.specs.Rules.Layout.{childrenBelow}
 use Rattle.meaning.specs.Rules.Reach.{isCycle, isChild, nearer, through, throughAll, marksOfLast, marks, markOf}
 use Rattle.meaning.specs.Laws.ReachLaws.{marks-length, root-mark}
-use Rattle.columns.specs.Columns.{place, cell, markColumn, withColumn}
-use Rattle.columns.specs.ColumnLaws.{changed, with-column, with-same, with-stored}
-use Rattle.marks.specs.Handing.{handedOn, lower, turn, turn-reached, turn-unreached, lowered-column}
+use Rattle.columns.specs.Columns.{cell, markColumn, withColumn}
+use Rattle.columns.specs.ColumnLaws.{with-length, with-column, with-same, with-again}
+use Rattle.marks.specs.Handing.{onlyRoot, handedOn, lower, turn, turn-reached, turn-unreached, lowered-column}
 
 module _ (ns ps : List ℕ) where
   -- ---- the marks from node e on are the marks of the last nodes
@@ -157,48 +157,61 @@ module _ (ns ps : List ℕ) where
       let small : c < p = ltb-true c p (and-left (ltb c p) (every (λ c. ltb c p) cs) h) in
       and-both (ltb c n) (every (λ c. ltb c n) cs) (lt-ltb c n (omega arith)) (below-all p cs n l (and-right (ltb c p) (every (λ c. ltb c p) cs) h))
 
-  module _ (base : ℕ) (work : List ℕ) (room : workPerNode * (base + nodeCount ns) ≤ length work) where
-    -- the work space on the way
+  -- ---- the work space on the way down, by what it was when the root alone was marked
+  first : (i : ℕ) → i < nodeCount ns → onlyRoot (nodeCount ns) i ≡ soFar (nodeCount ns - 1) i
+  first i l = elim (ℕ-discrete (suc i) (nodeCount ns)) [
+    | yes e ↦ rw (eq-eqb (suc i) (nodeCount ns) e) (sym (settled (nodeCount ns - 1) i (omega arith) ∙ root-mark ns ps i e))
+    | no e ↦
+        rw (ne-eqb (suc i) (nodeCount ns) e)
+        (sym (waiting (nodeCount ns - 1) i (omega arith) ∙ from-end (suc (nodeCount ns - 1)) i (omega arith)))
+  ]
+
+  module _ (base : ℕ) (start : List ℕ) where
     abbrev pub marked : ℕ → List ℕ
-    marked p = withColumn markColumn base (nodeCount ns) (soFar p) work
+    marked p = withColumn markColumn base (nodeCount ns) (soFar p) start
 
-    -- the node whose turn it is holds its own mark
-    pub own-mark : (p : ℕ) → p < nodeCount ns → cell (marked p) markColumn (base + p) ≡ markOf ns ps p
-    own-mark p h = with-column markColumn base (nodeCount ns) (soFar p) work (omega arith) room p h ∙ settled p p (omega arith)
+    pub marked-length : (p : ℕ) → length (marked p) ≡ length start
+    marked-length p = with-length markColumn base (nodeCount ns) (soFar p) start
 
-    -- one turn takes the marks from suc p to p
-    pub turn-marks : (p : ℕ) → suc p < nodeCount ns → childrenBelow ns ps (suc p) ≡ true → turn ns ps base (suc p) (marked (suc p)) ≡ marked p
-    turn-marks p h below = elim (decLt 0 (markOf ns ps (suc p))) [
-      | yes k ↦
-          turn-reached ns ps base (suc p) (marked (suc p)) (rw (own-mark (suc p) h) k)
-          ∙ lowered-column base (handedOn ns (suc p) (cell (marked (suc p)) markColumn (base + suc p))) (nodeCount ns) work room (soFar (suc p)) (childrenAt ns ps (suc p))
-          (below-all (suc p) (childrenAt ns ps (suc p)) (nodeCount ns) h below)
-          ∙ with-same markColumn base (nodeCount ns)
-          (lower (handedOn ns (suc p) (cell (marked (suc p)) markColumn (base + suc p))) (childrenAt ns ps (suc p)) (soFar (suc p))) (soFar p) work
-          (λ i l. ap (λ (m : ℕ). lower (handedOn ns (suc p) m) (childrenAt ns ps (suc p)) (soFar (suc p)) i) (own-mark (suc p) h)
-          ∙ turned-reached (suc p) (markOf ns ps (suc p)) (soFar (suc p) i) i k ∙ next p i h below)
-      | no k ↦
-          let none : markOf ns ps (suc p) ≡ 0 = omega arith in
-          turn-unreached ns ps base (suc p) (marked (suc p)) (own-mark (suc p) h ∙ none)
-          ∙ with-same markColumn base (nodeCount ns) (soFar (suc p)) (soFar p) work
-          (λ i l. sym (turned-unreached (suc p) (markOf ns ps (suc p)) (soFar (suc p) i) i none) ∙ next p i h below)
-    ]
+    module _ (room : workPerNode * (base + nodeCount ns) ≤ length start) where
+      -- the node whose turn it is holds its own mark
+      pub own-mark : (p : ℕ) → p < nodeCount ns → cell (marked p) markColumn (base + p) ≡ markOf ns ps p
+      own-mark p h = with-column markColumn base (nodeCount ns) (soFar p) start (omega arith) room p h ∙ settled p p (omega arith)
 
-    -- at the start no node is reached but the root
-    pub start-marks : 0 < nodeCount ns
-        → set (withColumn markColumn base (nodeCount ns) (λ i. 0) work) (place markColumn (base + (nodeCount ns - 1))) 1 ≡ marked (nodeCount ns - 1)
-    start-marks h =
-        with-stored markColumn base (nodeCount ns) (λ i. 0) work (nodeCount ns - 1) 1 (omega arith)
-        ∙ with-same markColumn base (nodeCount ns) (changed markColumn base (λ i. 0) (nodeCount ns - 1) 1) (soFar (nodeCount ns - 1)) work first
-      where
-        first : (i : ℕ) → i < nodeCount ns → changed markColumn base (λ i. 0) (nodeCount ns - 1) 1 i ≡ soFar (nodeCount ns - 1) i
-        first i l = elim (ℕ-discrete i (nodeCount ns - 1)) [
-          | yes e ↦ rw (eq-eqb i (nodeCount ns - 1) e) (sym (settled (nodeCount ns - 1) i (omega arith) ∙ root-mark ns ps i (omega arith)))
-          | no e ↦
-              rw (ne-eqb i (nodeCount ns - 1) e)
-              (sym (waiting (nodeCount ns - 1) i (omega arith) ∙ from-end (suc (nodeCount ns - 1)) i (omega arith)))
-        ]
+      -- one turn takes the marks from suc p to p
+      pub turn-marks : (p : ℕ) → suc p < nodeCount ns → childrenBelow ns ps (suc p) ≡ true → turn ns ps base (suc p) (marked (suc p)) ≡ marked p
+      turn-marks p h below = elim (decLt 0 (markOf ns ps (suc p))) [
+        | yes k ↦
+            turn-reached ns ps base (suc p) (marked (suc p)) (rw (own-mark (suc p) h) k)
+            ∙ lowered-column base (handed (cell (marked (suc p)) markColumn (base + suc p))) (nodeCount ns) start room (soFar (suc p)) children
+            (below-all (suc p) children (nodeCount ns) h below)
+            ∙ with-same markColumn base (nodeCount ns) (lower (handed (cell (marked (suc p)) markColumn (base + suc p))) children (soFar (suc p))) (soFar p) start
+            (λ i l. ap (λ (m : ℕ). lower (handed m) children (soFar (suc p)) i) (own-mark (suc p) h)
+            ∙ turned-reached (suc p) (markOf ns ps (suc p)) (soFar (suc p) i) i k ∙ next p i h below)
+        | no k ↦
+            let none : markOf ns ps (suc p) ≡ 0 = omega arith in
+            turn-unreached ns ps base (suc p) (marked (suc p)) (own-mark (suc p) h ∙ none)
+            ∙ with-same markColumn base (nodeCount ns) (soFar (suc p)) (soFar p) start
+            (λ i l. sym (turned-unreached (suc p) (markOf ns ps (suc p)) (soFar (suc p) i) i none) ∙ next p i h below)
+      ]
+        where
+          children : List ℕ
+          children = childrenAt ns ps (suc p)
 
-    -- and at the end every node holds its mark
-    pub end-marks : marked 0 ≡ withColumn markColumn base (nodeCount ns) (markOf ns ps) work
-    end-marks = with-same markColumn base (nodeCount ns) (soFar 0) (markOf ns ps) work (λ i l. settled 0 i (omega arith))
+          handed : ℕ → ℕ
+          handed m = handedOn ns (suc p) m
+
+    -- the way starts where the root alone is marked, and ends where every node holds its mark
+    module _ (work : List ℕ) (rooted : start ≡ withColumn markColumn base (nodeCount ns) (onlyRoot (nodeCount ns)) work) where
+      over : (f : ℕ → ℕ) → withColumn markColumn base (nodeCount ns) f start ≡ withColumn markColumn base (nodeCount ns) f work
+      over f =
+          ap (withColumn markColumn base (nodeCount ns) f) rooted
+          ∙ with-again markColumn base (nodeCount ns) f (onlyRoot (nodeCount ns)) work
+
+      pub start-marks : start ≡ marked (nodeCount ns - 1)
+      start-marks =
+          rooted ∙ with-same markColumn base (nodeCount ns) (onlyRoot (nodeCount ns)) (soFar (nodeCount ns - 1)) work first
+          ∙ sym (over (soFar (nodeCount ns - 1)))
+
+      pub end-marks : marked 0 ≡ withColumn markColumn base (nodeCount ns) (markOf ns ps) work
+      end-marks = over (soFar 0) ∙ with-same markColumn base (nodeCount ns) (soFar 0) (markOf ns ps) work (λ i l. settled 0 i (omega arith))

@@ -24,7 +24,7 @@ ghost use Rattle.meaning.specs.Rules.Reach as reach;
 ghost use Rattle.meaning.specs.Claims.Column.{WellLaid};
 ghost use Rattle.lists.specs.Laid.{Laid};
 ghost use Rattle.columns.specs.Columns.{place, cell, markColumn, withColumn};
-ghost use Rattle.marks.specs.Handing.{lowered, turn};
+ghost use Rattle.marks.specs.Handing.{onlyRoot, lowered, turn};
 
 // Inner: column MARK of every node of a list past numbers 1 to 5, whose first row is `base`; all else in the work space
 // stays.
@@ -35,26 +35,33 @@ pub fn mark_reached(nodes: &[u32], pool: &[u32], base: usize, work: &mut [u64])
     ensures { λ _. ⌜ now (work .exit) ≡ withColumn markColumn base (nodeCount (now (nodes .entry))) (reach.markOf (now (nodes .entry)) (now (pool .entry))) (now (work .entry)) ⌝ }
 {
     let n = node_count(nodes);
-    if n == 0 {
-        return;
-    }
-    blank_marks(base, n, work);
-    let mut p = n - 1;
-    put(work, MARK, base + p, 1);
-    while p > 0 {
-        hand_on(nodes, pool, base, p, work);
+    mark_root(base, n, work);
+    let mut p = n;
+    while p > 1 {
         p = p - 1;
+        hand_on(nodes, pool, base, p, work);
     }
 }
 
-// No node is reached yet.
-fn blank_marks(base: usize, n: usize, work: &mut [u64])
+// At first the root alone is reached, with no Cycle node over it.
+fn mark_root(base: usize, n: usize, work: &mut [u64])
     requires { ⌜ workPerNode * (base + n) ≤ length (now work) ⌝ }
-    ensures { λ _. ⌜ now (work .exit) ≡ withColumn markColumn base n (λ i. 0) (now (work .entry)) ⌝ }
+    ensures { λ _. ⌜ now (work .exit) ≡ withColumn markColumn base n (onlyRoot n) (now (work .entry)) ⌝ }
 {
     for i in 0..n {
-        put(work, MARK, base + i, 0);
+        put(work, MARK, base + i, first_mark(i, n));
     }
+}
+
+// "The last node is the root."
+fn first_mark(i: usize, n: usize) -> u64
+    requires { ⌜ i < n ⌝ }
+    ensures { λ r. ⌜ r ≡ onlyRoot n i ⌝ }
+{
+    if i + 1 == n {
+        return 1;
+    }
+    0
 }
 
 // One node's turn: where it is reached, its children are.

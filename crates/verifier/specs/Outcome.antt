@@ -52,6 +52,12 @@ module _ (ns ps : List ℕ) where
   pub six-laid : toSix .number ≡ 0 → layout ns ps .number ≡ 0
   six-laid h = eqb-true (layout ns ps .number) 0 (then-first (layout ns ps) (verification ns ps) (eq-eqb (toSix .number) 0 h))
 
+  -- a list past 8 is past 6
+  pub sound-six : sound ns ps .number ≡ 0 → toSix .number ≡ 0
+  sound-six h =
+      let row : (toSix then fromSeven) .number ≡ 0 = ap (λ (r : Refusal). r .number) cut ∙ h in
+      eqb-true (toSix .number) 0 (then-first toSix fromSeven (eq-eqb ((toSix then fromSeven) .number) 0 row))
+
   pub sound-stops : toSix .number ≢ 0 → toSix ≡ sound ns ps
   sound-stops h = sym (then-stop toSix fromSeven h) ∙ cut
 

@@ -1,0 +1,218 @@
+// Replays cases of the verifier from standard input against the crate `verifier`, and says how many there were and which of
+// them differ, be it in the answer or in what is left of the work space. The cases are made by vectors/verify.py, which has
+// the answers from a model of document 01.
+mod cases;
+mod work;
+
+use cases::Case;
+use cases::Header;
+use cases::next_header;
+use libc::STDOUT_FILENO;
+use list_words::Entries;
+use list_words::next_list;
+use list_words::node_room;
+use list_words::pool_room;
+use list_words::work_room;
+use meaning::Refusal;
+use verifier::verify_expr;
+ghost use Prim.Native.Nat.{_+_, _≤_};
+ghost use lib.ListN.{length};
+ghost use Rattle.replay_verify.specs.Headers.{Fits, Roomy};
+ghost use Rattle.replay_verify.specs.Turns.{GetsOn};
+
+enum Outcome {
+    Finished { cases: u64, differ: u64 },
+    Malformed(usize),
+}
+
+// One case tried, with the offset behind it and 1 where it differs, else 0; no case more; or the offset of a fault.
+enum Turn {
+    Tried { next: usize, differ: u64 },
+    End,
+    Malformed(usize),
+}
+
+// ---- one case
+
+fn told(number: u64, given: Refusal, left: bool) {
+    io::write_all(STDOUT_FILENO, b"case ");
+    io::print_decimal(STDOUT_FILENO, number);
+    io::write_all(STDOUT_FILENO, b" differs: answered ");
+    io::print_decimal(STDOUT_FILENO, given.number as u64);
+    io::write_all(STDOUT_FILENO, b" at ");
+    io::print_decimal(STDOUT_FILENO, given.node as u64);
+    if !left {
+        io::write_all(STDOUT_FILENO, b", work space otherwise");
+    }
+    io::write_all(STDOUT_FILENO, b"\n");
+}
+
+fn is_answer(given: Refusal, case: Case) -> bool {
+    given.number as u64 == case.number && given.node as u64 == case.node
+}
+
+// Says so where the case differs; the answer is 1 then, and else 0.
+fn compared(number: u64, case: Case, nodes: &[u32], pool: &[u32], lent: &mut [u64]) -> u64
+    ensures { λ r. ⌜ r ≤ 1 ⌝ }
+{
+    work::fill(lent);
+    let given = verify_expr(nodes, pool, lent);
+    let left = work::is_left(lent, case.cleared);
+    if is_answer(given, case) && left {
+        return 0;
+    }
+    told(number, given, left);
+    1
+}
+
+// Reads the case's list into what is lent for it, and tries the case.
+fn tried(
+    number: u64,
+    case: Case,
+    text: &[u8],
+    at: usize,
+    nodes: &mut [u32],
+    pool: &mut [u32],
+    work: &mut [u64],
+) -> Turn
+    requires { ⌜ at ≤ length (now text) ⌝ }
+    ensures { λ r. ⌜ GetsOn (length (now (text .entry))) at r ⌝ }
+{
+    let reading = next_list(text, at, nodes, pool);
+    match reading {
+        Entries::Whole(next) => Turn::Tried {
+            next: next,
+            differ: compared(number, case, nodes, pool, work),
+        },
+        Entries::Bad(offset) => Turn::Malformed(offset),
+    }
+}
+
+// Lends of the room what the case says.
+fn in_room(
+    number: u64,
+    case: Case,
+    text: &[u8],
+    at: usize,
+    nodes: &mut [u32],
+    pool: &mut [u32],
+    work: &mut [u64],
+) -> Turn
+    requires { ⌜ at ≤ length (now text) ⌝ }
+    requires { ⌜ Fits case (length (now nodes)) (length (now pool)) (length (now work)) ⌝ }
+    ensures { λ r. ⌜ GetsOn (length (now (text .entry))) at r ⌝ }
+{
+    let words = case.words;
+    let entries = case.entries;
+    let room = case.room;
+    tried(
+        number,
+        case,
+        text,
+        at,
+        &mut nodes[..words],
+        &mut pool[..entries],
+        &mut work[..room],
+    )
+}
+
+fn next_case(
+    number: u64,
+    text: &[u8],
+    at: usize,
+    nodes: &mut [u32],
+    pool: &mut [u32],
+    work: &mut [u64],
+) -> Turn
+    requires { ⌜ Roomy (length (now nodes)) (length (now pool)) (length (now work)) ⌝ }
+    ensures { λ r. ⌜ GetsOn (length (now (text .entry))) (at + 1) r ⌝ }
+{
+    let header = next_header(text, at);
+    match header {
+        Header::Given { case, next } => in_room(number, case, text, next, nodes, pool, work),
+        Header::End => Turn::End,
+        Header::Bad(offset) => Turn::Malformed(offset),
+    }
+}
+
+// ---- all cases
+
+// Cases are numbered from 1. The lent slices are room for a case's list and work space.
+fn replay(text: &[u8], nodes: &mut [u32], pool: &mut [u32], work: &mut [u64]) -> Outcome
+    requires { ⌜ Roomy (length (now nodes)) (length (now pool)) (length (now work)) ⌝ }
+{
+    let mut at: usize = 0;
+    let mut cases: u64 = 0;
+    let mut differ: u64 = 0;
+    while at < text.len() {
+        let turn = next_case(cases + 1, text, at, nodes, pool, work);
+        match turn {
+            Turn::Tried { next, differ: more } => {
+                cases = cases + 1;
+                differ = differ + more;
+                at = next;
+            }
+            Turn::End => return Outcome::Finished {
+                cases: cases,
+                differ: differ,
+            },
+            Turn::Malformed(offset) => return Outcome::Malformed(offset),
+        }
+    }
+    Outcome::Finished {
+        cases: cases,
+        differ: differ,
+    }
+}
+
+// ---- what is printed
+
+// Standard input without a case is most likely a program started without its file, so that is answered with the usage.
+fn count(cases: u64, differ: u64) {
+    if cases == 0 {
+        io::write_all(
+            STDOUT_FILENO,
+            b"no cases. usage: replay_verify < FILE, with cases of decimal words as vectors/verify.py makes them\n",
+        );
+        return;
+    }
+    io::print_decimal(STDOUT_FILENO, cases);
+    io::write_all(STDOUT_FILENO, b" cases, ");
+    io::print_decimal(STDOUT_FILENO, differ);
+    io::write_all(STDOUT_FILENO, b" differ\n");
+}
+
+fn report(outcome: Outcome) {
+    match outcome {
+        Outcome::Finished { cases, differ } => count(cases, differ),
+        Outcome::Malformed(offset) => {
+            io::write_all(STDOUT_FILENO, b"malformed input at offset ");
+            io::print_decimal(STDOUT_FILENO, offset as u64);
+            io::write_all(STDOUT_FILENO, b"\n");
+        }
+    }
+}
+
+fn replayed(text: &[u8]) -> Outcome {
+    let mut nodes = node_room();
+    let mut pool = pool_room();
+    let mut work = work_room();
+    replay(text, &mut nodes, &mut pool, &mut work)
+}
+
+// A call, so that a proof has an array of this length before it and not so many zeros.
+fn space() -> [u8; 2097152] {
+    [0; 2097152]
+}
+
+// An input that fills the whole space may go on behind it, and is not replayed in part. The stack must hold the text and the
+// room for a case, three megabytes together.
+fn main() {
+    let mut text = space();
+    let n = io::read_full(0, &mut text);
+    if n == 2097152 {
+        io::write_all(STDOUT_FILENO, b"more than 2097151 bytes of input\n");
+        return;
+    }
+    report(replayed(&text[..n]));
+}
