@@ -42,7 +42,7 @@ fn told(number: u64, given: Refusal, left: bool) {
     io::write_all(STDOUT_FILENO, b" at ");
     io::print_decimal(STDOUT_FILENO, given.node as u64);
     if !left {
-        io::write_all(STDOUT_FILENO, b", work space otherwise");
+        io::write_all(STDOUT_FILENO, b", work space not as expected");
     }
     io::write_all(STDOUT_FILENO, b"\n");
 }

@@ -1,0 +1,159 @@
+// Runs the verifier on one list so many times: what bench/verify.py times. Standard input is decimal words: how many times,
+// how many node words, how many pool entries, and then those words, each below 2^32.
+use decimals::Row;
+use decimals::Word;
+use decimals::next_row;
+use decimals::next_word;
+use libc::STDOUT_FILENO;
+use list_words::Entries;
+use list_words::NODE_ROOM;
+use list_words::POOL_ROOM;
+use list_words::next_list;
+use list_words::node_room;
+use list_words::pool_room;
+use list_words::work_room;
+use meaning::Refusal;
+use meaning::limits::WORDS_PER_NODE;
+use meaning::limits::WORK_PER_NODE;
+use meaning::limits::WORK_PER_POOL;
+use verifier::verify_expr;
+ghost use Prim.Native.Nat.{_≤_};
+ghost use lib.ListN.{length};
+ghost use Rattle.list_words.specs.Room.{nodeRoom, poolRoom, workRoom};
+
+// ---- the list and its work space
+
+// "16 u64 words per node plus 2 per pool entry" (document 01, number 10)
+fn asked(words: usize, entries: usize) -> usize
+    requires { ⌜ (words ≤ nodeRoom) × (entries ≤ poolRoom) ⌝ }
+    ensures { λ r. ⌜ r ≤ workRoom ⌝ }
+{
+    WORK_PER_NODE * (words / WORDS_PER_NODE) + WORK_PER_POOL * entries
+}
+
+fn is_at_end(text: &[u8], at: usize) -> bool {
+    let word = next_word(text, at);
+    match word {
+        Word::Value { value, next } => false,
+        Word::End => true,
+        Word::Bad(offset) => false,
+    }
+}
+
+// The last answer; after the first call each finds the work space as the one before it left it.
+fn repeated(repeats: u64, nodes: &[u32], pool: &[u32], work: &mut [u64]) -> Refusal {
+    let mut given = Refusal { number: 0, node: 0 };
+    for i in 0..repeats {
+        given = verify_expr(nodes, pool, work);
+    }
+    given
+}
+
+fn run(
+    repeats: u64,
+    text: &[u8],
+    at: usize,
+    nodes: &mut [u32],
+    pool: &mut [u32],
+    work: &mut [u64],
+) {
+    let reading = next_list(text, at, nodes, pool);
+    match reading {
+        Entries::Whole(next) => {
+            if !is_at_end(text, next) {
+                return malformed(next);
+            }
+            told(repeated(repeats, nodes, pool, work), repeats)
+        }
+        Entries::Bad(offset) => malformed(offset),
+    }
+}
+
+// Lends of the room what the row says.
+fn run_in_room(
+    row: &[u64; 3],
+    text: &[u8],
+    at: usize,
+    nodes: &mut [u32],
+    pool: &mut [u32],
+    work: &mut [u64],
+)
+    requires { ⌜ (nodeRoom ≤ length (now nodes)) × (poolRoom ≤ length (now pool)) × (workRoom ≤ length (now work)) ⌝ }
+{
+    if row[1] > NODE_ROOM as u64 {
+        return malformed(0);
+    }
+    if row[2] > POOL_ROOM as u64 {
+        return malformed(0);
+    }
+    let words = row[1] as usize;
+    let entries = row[2] as usize;
+    let room = asked(words, entries);
+    run(
+        row[0],
+        text,
+        at,
+        &mut nodes[..words],
+        &mut pool[..entries],
+        &mut work[..room],
+    )
+}
+
+fn run_row(row: &[u64; 3], text: &[u8], at: usize) {
+    let mut nodes = node_room();
+    let mut pool = pool_room();
+    let mut work = work_room();
+    run_in_room(row, text, at, &mut nodes, &mut pool, &mut work)
+}
+
+fn start(text: &[u8]) {
+    let mut row = [0u64; 3];
+    let reading = next_row(text, 0, &mut row);
+    match reading {
+        Row::Whole(next) => run_row(&row, text, next),
+        Row::End => usage(),
+        Row::Bad(offset) => malformed(offset),
+    }
+}
+
+// ---- what is printed
+
+fn told(given: Refusal, repeats: u64) {
+    io::write_all(STDOUT_FILENO, b"number ");
+    io::print_decimal(STDOUT_FILENO, given.number as u64);
+    io::write_all(STDOUT_FILENO, b" at node ");
+    io::print_decimal(STDOUT_FILENO, given.node as u64);
+    io::write_all(STDOUT_FILENO, b", ");
+    io::print_decimal(STDOUT_FILENO, repeats);
+    io::write_all(STDOUT_FILENO, b" times\n");
+}
+
+fn malformed(offset: usize) {
+    io::write_all(STDOUT_FILENO, b"malformed input at offset ");
+    io::print_decimal(STDOUT_FILENO, offset as u64);
+    io::write_all(STDOUT_FILENO, b"\n");
+}
+
+fn usage() {
+    io::write_all(
+        STDOUT_FILENO,
+        b"no list. usage: repeat_verify < FILE, of decimal words: repeats, node words, pool entries, then the list\n",
+    );
+}
+
+// Room for the largest list, each of its words with ten digits and a blank. A call, so that a proof has an array of this length
+// before it and not so many zeros.
+fn space() -> [u8; 524288] {
+    [0; 524288]
+}
+
+// An input that fills the whole space may go on behind it.
+fn main() {
+    let mut text = space();
+    let n = io::read_full(0, &mut text);
+    if n == 524288 {
+        io::write_all(STDOUT_FILENO, b"more than 524287 bytes of input\n");
+        return;
+    }
+    start(&text[..n]);
+}
