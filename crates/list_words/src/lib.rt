@@ -1,9 +1,13 @@
 // A node list from decimal words (document 01, "The node list": "Two lent slices of u32"): what the programs that take a list
 // read it with. A program says how many words it takes by the length of what it lends; so a word is owed, and a text that
-// ends before it is bad at its end. The plain meaning is specs/Entries.antt.
+// ends before it is bad at its end. The plain meaning is specs/Entries.antt. Where the counts stand in the text, `read_list`
+// reads both (specs/Counted.antt).
+mod counted;
 mod entry;
 mod room;
 
+pub use counted::ListRead;
+pub use counted::read_list;
 pub use entry::Entry;
 pub use entry::next_entry;
 pub use room::NODE_ROOM;

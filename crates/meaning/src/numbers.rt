@@ -17,4 +17,16 @@ pub const NO_ROOT: u32 = 7;
 
 pub const NOT_EVALUABLE: u32 = 8;
 
+pub const MANY_INPUTS: u32 = 9;
+
 pub const LITTLE_WORK: u32 = 10;
+
+pub const OUT_OF_BOUNDS: u32 = 11;
+
+pub const BAD_ASSIGNMENT: u32 = 12;
+
+pub const BAD_TABLE: u32 = 13;
+
+pub const WIDE_GATE: u32 = 14;
+
+pub const SHORT_OUTPUT: u32 = 19;

@@ -1,0 +1,2 @@
+-- the lists that the program has room for
+pub mod Room

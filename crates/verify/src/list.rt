@@ -1,0 +1,33 @@
+// One list through the verifier, and its line.
+use super::room::WORK_ROOM;
+use libc::STDOUT_FILENO;
+use lists::sizes::work_for;
+use meaning::Refusal;
+use meaning::numbers::DONE;
+use refusal_text::write_refusal;
+use verifier::verify_expr;
+ghost use Prim.Native.Nat.{_≤_};
+ghost use lib.ListN.{length};
+ghost use Rattle.verify.specs.Room.{workRoom, Taken};
+
+// Writes `verifies`, or the refusal.
+pub(crate) fn verify(nodes: &[u32], pool: &[u32])
+    requires { ⌜ Taken (now nodes) (now pool) ⌝ }
+{
+    let mut work = [0u64; WORK_ROOM];
+    let refusal = answered(nodes, pool, &mut work);
+    if refusal.number == DONE {
+        io::write_all(STDOUT_FILENO, b"verifies\n");
+        return;
+    }
+    write_refusal(STDOUT_FILENO, refusal);
+}
+
+// Lends of the work space exactly what number 10 asks.
+fn answered(nodes: &[u32], pool: &[u32], work: &mut [u64]) -> Refusal
+    requires { ⌜ Taken (now nodes) (now pool) ⌝ }
+    requires { ⌜ workRoom ≤ length (now work) ⌝ }
+{
+    let asked = work_for(nodes, pool);
+    verify_expr(nodes, pool, &mut work[..asked])
+}
