@@ -36,7 +36,7 @@ fn names_node(number: u32) -> bool {
     }
 }
 
-// One arm for each number of the table; 15 to 18 are kept free, and a number that is not there has no meaning to write.
+// What is wrong with a list: one arm for each of the numbers 1 to 8; the others are a call's.
 fn write_meaning(fd: i32, number: u32) -> bool {
     match number {
         numbers::NOT_ALIGNED => io::write_all(fd, b": the node words do not make whole nodes"),
@@ -56,6 +56,14 @@ fn write_meaning(fd: i32, number: u32) -> bool {
             fd,
             b": the list verifies, but this node can not be evaluated",
         ),
+        _ => write_call_meaning(fd, number),
+    }
+}
+
+// What is wrong with what else a call was given: numbers 9 to 14 and 19. 15 to 18 are kept free, and a number that is not in
+// the table has no meaning to write.
+fn write_call_meaning(fd: i32, number: u32) -> bool {
+    match number {
         numbers::MANY_INPUTS => io::write_all(
             fd,
             b": the trees differ, and the first has too many variables to try",

@@ -16,6 +16,8 @@ use meaning::Refusal;
 use meaning::limits::WORDS_PER_NODE;
 use meaning::limits::WORK_PER_NODE;
 use meaning::limits::WORK_PER_POOL;
+use replay_report::malformed;
+use replay_report::too_long;
 use verifier::verify_expr;
 ghost use Prim.Native.Nat.{_≤_};
 ghost use lib.ListN.{length};
@@ -128,12 +130,6 @@ fn told(given: Refusal, repeats: u64) {
     io::write_all(STDOUT_FILENO, b" times\n");
 }
 
-fn malformed(offset: usize) {
-    io::write_all(STDOUT_FILENO, b"malformed input at offset ");
-    io::print_decimal(STDOUT_FILENO, offset as u64);
-    io::write_all(STDOUT_FILENO, b"\n");
-}
-
 fn usage() {
     io::write_all(
         STDOUT_FILENO,
@@ -152,7 +148,7 @@ fn main() {
     let mut text = space();
     let n = io::read_full(0, &mut text);
     if n == 524288 {
-        io::write_all(STDOUT_FILENO, b"more than 524287 bytes of input\n");
+        too_long(n);
         return;
     }
     start(&text[..n]);

@@ -7,15 +7,13 @@ use answers::agrees;
 use decimals::Row;
 use decimals::next_row;
 use libc::STDOUT_FILENO;
+use replay_report::Outcome;
+use replay_report::report;
+use replay_report::too_long;
 use rows::well_formed;
 ghost use mathlib.Core.Path.{_≡_};
 ghost use Prim.Native.Nat.{_≤_};
 ghost use lib.ListN.{length};
-
-enum Outcome {
-    Finished { cases: u64, differ: u64 },
-    Malformed(usize),
-}
 
 // Says so where a case differs; the answer is 1 then, and else 0.
 fn tried(case: u64, row: &[u64; 17]) -> u64
@@ -61,32 +59,6 @@ fn replay(text: &[u8]) -> Outcome {
     }
 }
 
-// Standard input without a case is most likely a program started without its file, so that is answered with the usage.
-fn count(cases: u64, differ: u64) {
-    if cases == 0 {
-        io::write_all(
-            STDOUT_FILENO,
-            b"no cases. usage: replay_tables < FILE, with a case of 17 decimal words to a line\n",
-        );
-        return;
-    }
-    io::print_decimal(STDOUT_FILENO, cases);
-    io::write_all(STDOUT_FILENO, b" cases, ");
-    io::print_decimal(STDOUT_FILENO, differ);
-    io::write_all(STDOUT_FILENO, b" differ\n");
-}
-
-fn report(outcome: Outcome) {
-    match outcome {
-        Outcome::Finished { cases, differ } => count(cases, differ),
-        Outcome::Malformed(offset) => {
-            io::write_all(STDOUT_FILENO, b"malformed input at offset ");
-            io::print_decimal(STDOUT_FILENO, offset as u64);
-            io::write_all(STDOUT_FILENO, b"\n");
-        }
-    }
-}
-
 // The `ensures` gives only the length, which lending the array needs.
 fn space() -> [u8; 524288]
     ensures { λ r. ⌜ 524288 ≡ length r ⌝ }
@@ -99,8 +71,11 @@ fn main() {
     let mut text = space();
     let n = io::read_full(0, &mut text);
     if n == 524288 {
-        io::write_all(STDOUT_FILENO, b"more than 524287 bytes of input\n");
+        too_long(n);
         return;
     }
-    report(replay(&text[..n]));
+    report(
+        replay(&text[..n]),
+        b"replay_tables < FILE, with a case of 17 decimal words to a line",
+    );
 }

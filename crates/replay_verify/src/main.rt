@@ -14,16 +14,14 @@ use list_words::node_room;
 use list_words::pool_room;
 use list_words::work_room;
 use meaning::Refusal;
+use replay_report::Outcome;
+use replay_report::report;
+use replay_report::too_long;
 use verifier::verify_expr;
 ghost use Prim.Native.Nat.{_+_, _≤_};
 ghost use lib.ListN.{length};
 ghost use Rattle.replay_verify.specs.Headers.{Fits, Roomy};
 ghost use Rattle.replay_verify.specs.Turns.{GetsOn};
-
-enum Outcome {
-    Finished { cases: u64, differ: u64 },
-    Malformed(usize),
-}
 
 // One case tried, with the offset behind it and 1 where it differs, else 0; no case more; or the offset of a fault.
 enum Turn {
@@ -165,34 +163,6 @@ fn replay(text: &[u8], nodes: &mut [u32], pool: &mut [u32], work: &mut [u64]) ->
     }
 }
 
-// ---- what is printed
-
-// Standard input without a case is most likely a program started without its file, so that is answered with the usage.
-fn count(cases: u64, differ: u64) {
-    if cases == 0 {
-        io::write_all(
-            STDOUT_FILENO,
-            b"no cases. usage: replay_verify < FILE, with cases of decimal words as vectors/verify.py makes them\n",
-        );
-        return;
-    }
-    io::print_decimal(STDOUT_FILENO, cases);
-    io::write_all(STDOUT_FILENO, b" cases, ");
-    io::print_decimal(STDOUT_FILENO, differ);
-    io::write_all(STDOUT_FILENO, b" differ\n");
-}
-
-fn report(outcome: Outcome) {
-    match outcome {
-        Outcome::Finished { cases, differ } => count(cases, differ),
-        Outcome::Malformed(offset) => {
-            io::write_all(STDOUT_FILENO, b"malformed input at offset ");
-            io::print_decimal(STDOUT_FILENO, offset as u64);
-            io::write_all(STDOUT_FILENO, b"\n");
-        }
-    }
-}
-
 fn replayed(text: &[u8]) -> Outcome {
     let mut nodes = node_room();
     let mut pool = pool_room();
@@ -211,8 +181,11 @@ fn main() {
     let mut text = space();
     let n = io::read_full(0, &mut text);
     if n == 2097152 {
-        io::write_all(STDOUT_FILENO, b"more than 2097151 bytes of input\n");
+        too_long(n);
         return;
     }
-    report(replayed(&text[..n]));
+    report(
+        replayed(&text[..n]),
+        b"replay_verify < FILE, with cases of decimal words as vectors/verify.py makes them",
+    );
 }

@@ -7,7 +7,7 @@ use native.Mathlib.Omega.{arith}
 use Rattle.meaning.specs.Rules.Verification.{wrong}
 use Rattle.meaning.specs.Rules.Reach.{markOf}
 use Rattle.meaning.specs.Rules.Trees.{kindAt, childrenAt, nodeCount}
-use Rattle.meaning.specs.Rules.Kinds.{kindOf}
+use Rattle.meaning.specs.Rules.Kinds.{kindOf, cycleWord}
 use Rattle.lists.specs.Laid.{part-fits}
 use Rattle.faults.specs.Leaves.{leaves, are-nodes, fault-unreached, fault-reached}
 use Rattle.faults.proofs.verify_fault.Statement.{statement}
@@ -56,7 +56,7 @@ wrong-requires c κs =
     let i : ℕ = s .args .i in
     let inside : i < nodeCount ns = s .pre .1 .0 in
     let mark : s .args .mark ≡ markOf ns ps i = s .pre .1 .1 in
-    let known : kindAt ns i ≤ 16 = s .pre .0 i inside .0 in
+    let known : kindAt ns i ≤ cycleWord = s .pre .0 i inside .0 in
     (omega (arith, c .kind-of .ensures, known), rw (c .before .children-of .ensures) (are-nodes ns ps (s .pre .0) i inside))
 
 -- src/lib.rt:41:9
