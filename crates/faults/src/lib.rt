@@ -3,13 +3,13 @@
 // the node's mark at hand; which node is the lowest faulty one is the verifier's to find. A rule looks at a child no
 // further than its kind word and its datum, so the code reads those and never walks down.
 use lists::children::children_of;
-use lists::nodes::datum_of;
-use lists::nodes::kind_of;
-use lists::nodes::wide;
 use meaning::kinds::BUS;
 use meaning::kinds::PROGRAM;
 use meaning::numbers::DONE;
 use meaning::numbers::NOT_VERIFIED;
+use nodes::datum_of;
+use nodes::kind_of;
+use nodes::wide;
 use tables::rows::table_fits;
 ghost use mathlib.Core.Path.{_≡_};
 ghost use mathlib.Core.Bool.{Bool, _||_};

@@ -1,5 +1,5 @@
--- What code may rely on past the numbers 1 to 5: the limits, and of each node that its kind is known, its words are right, and
--- its children lie in the pool and below it.
+-- What code may rely on past the numbers 3 to 5: of each node, that its kind is known, its words are right, and its children
+-- lie in the pool and below it.
 use Prim.Native.Nat.{ℕ, _+_, _≤_, _<_}
 use mathlib.Core.Path.{_≡_}
 use mathlib.Core.List.{List}
@@ -56,6 +56,3 @@ module _ (ns ps : List ℕ) where
   -- a list that `layout`, and that `sizes`, lets pass
   pub layout-laid : layout ns ps .number ≡ 0 → Laid ns ps
   layout-laid passed = layout-passed ns ps .when .0 passed
-
-  pub sizes-within : sizes ns ps .number ≡ 0 → (nodeCount ns ≤ mostNodes) × (length ps ≤ mostPool)
-  sizes-within passed = sizes-passed ns ps .when .0 passed .1

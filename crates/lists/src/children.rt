@@ -1,9 +1,9 @@
 // A node's children (document 01, "The node list"): how many there may be, and which they are.
-use super::nodes::count_of;
-use super::nodes::first_of;
-use super::nodes::kind_of;
 use meaning::kinds::VARIABLE;
 use meaning::limits::WIDEST_BUS;
+use nodes::count_of;
+use nodes::first_of;
+use nodes::kind_of;
 ghost use mathlib.Core.Path.{_≡_};
 ghost use Prim.Native.Nat.{_<_};
 ghost use Rattle.meaning.specs.Rules.Kinds.{kindOf, mayHave};

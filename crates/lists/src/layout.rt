@@ -1,16 +1,16 @@
 // Numbers 3, 4 and 5, of one node (document 01, "Numbers a call answers with").
 use super::children::children_of;
 use super::children::may_have;
-use super::nodes::count_of;
-use super::nodes::first_of;
-use super::nodes::kind_of;
-use super::nodes::wide;
 use meaning::kinds::CYCLE;
 use meaning::limits::VARIABLE_COUNT;
 use meaning::numbers::BAD_CHILD;
 use meaning::numbers::BAD_LAYOUT;
 use meaning::numbers::DONE;
 use meaning::numbers::UNKNOWN_KIND;
+use nodes::count_of;
+use nodes::first_of;
+use nodes::kind_of;
+use nodes::wide;
 ghost use mathlib.Core.Path.{_≡_};
 ghost use Prim.Native.Nat.{_+_, _^_, _<_};
 ghost use lib.Dec.{ltb, leb};

@@ -6,17 +6,17 @@
 mod search;
 
 use columns::clear;
-use lists::nodes::node_count;
-use lists::sizes::room;
-use lists::sizes::sizes;
-use lists::sizes::work_for;
 use marks::mark_reached;
 use meaning::Refusal;
 use meaning::numbers::DONE;
 use meaning::numbers::NO_ROOT;
+use nodes::node_count;
 use search::Test;
 use search::lowest_fault;
 use shapes::step::write_shapes;
+use sizes::room;
+use sizes::sizes;
+use sizes::work_for;
 ghost use mathlib.Core.Path.{_≡_};
 ghost use Prim.Native.Nat.{_+_, _*_, _≤_};
 ghost use lib.ListN.{length};

@@ -1,10 +1,10 @@
 // One list through the verifier, and its line.
 use super::room::WORK_ROOM;
 use libc::STDOUT_FILENO;
-use lists::sizes::work_for;
 use meaning::Refusal;
 use meaning::numbers::DONE;
 use refusal_text::write_refusal;
+use sizes::work_for;
 use verifier::verify_expr;
 ghost use Prim.Native.Nat.{_≤_};
 ghost use lib.ListN.{length};

@@ -15,8 +15,8 @@ use Rattle.faults.proofs.any_of_kind.Statement.{statement}
 use Rattle.faults.proofs.any_of_kind.Tie as tie
 use Rattle.faults.proofs.any_of_kind.Reads as reads
 use Rattle.faults.proofs.any_of_kind.Lts as lts
-use Rattle.lists.proofs.nodes.kind_of.Reads as kind-of-reads
-use Rattle.lists.proofs.nodes.wide.Reads as wide-reads
+use Rattle.nodes.proofs.kind_of.Reads as kind-of-reads
+use Rattle.nodes.proofs.wide.Reads as wide-reads
 
 abbrev Inv-loop : tie.InvT-loop
 Inv-loop nodes children kind at₀ at-end at = (at ≤ at-end) × (at-end ≡ length children) × (some (λ k. eqb (kindAt nodes k) kind) (drop at children) ≡ some (λ k. eqb (kindAt nodes k) kind) children)

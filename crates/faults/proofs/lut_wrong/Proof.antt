@@ -15,9 +15,9 @@ use Rattle.faults.proofs.lut_wrong.Statement.{statement}
 use Rattle.faults.proofs.lut_wrong.Tie as tie
 use Rattle.faults.proofs.lut_wrong.Reads as reads
 use Rattle.faults.proofs.lut_wrong.Lts as lts
-use Rattle.lists.proofs.nodes.datum_of.Reads as datum-of-reads
-use Rattle.lists.proofs.nodes.kind_of.Reads as kind-of-reads
-use Rattle.lists.proofs.nodes.wide.Reads as wide-reads
+use Rattle.nodes.proofs.datum_of.Reads as datum-of-reads
+use Rattle.nodes.proofs.kind_of.Reads as kind-of-reads
+use Rattle.nodes.proofs.wide.Reads as wide-reads
 use Rattle.tables.proofs.rows.table_fits.Reads as table-fits-reads
 
 -- src/lib.rt:70:9

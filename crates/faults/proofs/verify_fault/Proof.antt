@@ -16,7 +16,7 @@ use Rattle.faults.proofs.verify_fault.Reads as reads
 use Rattle.faults.proofs.verify_fault.Lts as lts
 use Rattle.faults.proofs.wrong.Reads as wrong-reads
 use Rattle.lists.proofs.children.children_of.Reads as children-of-reads
-use Rattle.lists.proofs.nodes.kind_of.Reads as kind-of-reads
+use Rattle.nodes.proofs.kind_of.Reads as kind-of-reads
 
 -- src/lib.rt:37:9
 returns : tie.Need-returns

@@ -17,7 +17,7 @@ use Rattle.marks.proofs.hand_on.Reads as reads
 use Rattle.marks.proofs.hand_on.Lts as lts
 use Rattle.columns.proofs.get.Reads as get-reads
 use Rattle.lists.proofs.children.children_of.Reads as children-of-reads
-use Rattle.lists.proofs.nodes.kind_of.Reads as kind-of-reads
+use Rattle.nodes.proofs.kind_of.Reads as kind-of-reads
 use Rattle.marks.proofs.handed_on.Reads as handed-on-reads
 use Rattle.marks.proofs.lower_all.Reads as lower-all-reads
 

@@ -13,7 +13,7 @@ use Rattle.marks.proofs.lower_all.Reads as reads
 use Rattle.marks.proofs.lower_all.Lts as lts
 use Rattle.columns.proofs.get.Reads as get-reads
 use Rattle.columns.proofs.put.Reads as put-reads
-use Rattle.lists.proofs.nodes.wide.Reads as wide-reads
+use Rattle.nodes.proofs.wide.Reads as wide-reads
 use Rattle.marks.proofs.nearer.Reads as nearer-reads
 
 abbrev Inv-loop : tie.InvT-loop

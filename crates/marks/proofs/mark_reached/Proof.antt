@@ -15,7 +15,7 @@ use Rattle.marks.proofs.mark_reached.Statement.{statement}
 use Rattle.marks.proofs.mark_reached.Tie as tie
 use Rattle.marks.proofs.mark_reached.Reads as reads
 use Rattle.marks.proofs.mark_reached.Lts as lts
-use Rattle.lists.proofs.nodes.node_count.Reads as node-count-reads
+use Rattle.nodes.proofs.node_count.Reads as node-count-reads
 use Rattle.marks.proofs.hand_on.Reads as hand-on-reads
 use Rattle.marks.proofs.mark_root.Reads as mark-root-reads
 

@@ -18,7 +18,7 @@ use Rattle.verifier.proofs.sound.Statement.{statement}
 use Rattle.verifier.proofs.sound.Tie as tie
 use Rattle.verifier.proofs.sound.Reads as reads
 use Rattle.verifier.proofs.sound.Lts as lts
-use Rattle.lists.proofs.nodes.node_count.Reads as node-count-reads
+use Rattle.nodes.proofs.node_count.Reads as node-count-reads
 use Rattle.shapes.proofs.step.write_shapes.Reads as write-shapes-reads
 use Rattle.verifier.proofs.search.lowest_fault.Reads as lowest-fault-reads
 use Rattle.verifier.proofs.verified.Reads as verified-reads

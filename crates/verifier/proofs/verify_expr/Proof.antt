@@ -13,16 +13,16 @@ use Rattle.meaning.specs.Rules.Trees.{nodeCount}
 use Rattle.meaning.specs.Rules.Limits.{mostNodes, mostPool}
 use Rattle.meaning.specs.declared.Refusal.{Refusal}
 use Rattle.columns.specs.ColumnLaws.{cleared-alike}
-use Rattle.lists.specs.Laid.{sizes-within}
+use Rattle.sizes.specs.Within.{sizes-within}
 use Rattle.verifier.specs.Outcome.{refused-sizes, refused-room, answered}
 use Rattle.verifier.proofs.verify_expr.Statement.{statement}
 use Rattle.verifier.proofs.verify_expr.Tie as tie
 use Rattle.verifier.proofs.verify_expr.Reads as reads
 use Rattle.verifier.proofs.verify_expr.Lts as lts
 use Rattle.columns.proofs.clear.Reads as clear-reads
-use Rattle.lists.proofs.sizes.room.Reads as room-reads
-use Rattle.lists.proofs.sizes.sizes.Reads as sizes-reads
-use Rattle.lists.proofs.sizes.work_for.Reads as work-for-reads
+use Rattle.sizes.proofs.room.Reads as room-reads
+use Rattle.sizes.proofs.sizes.Reads as sizes-reads
+use Rattle.sizes.proofs.work_for.Reads as work-for-reads
 use Rattle.verifier.proofs.verified.Reads as verified-reads
 
 -- src/lib.rt:37:9

@@ -12,8 +12,8 @@ use Rattle.shapes.proofs.fit.root_program.Statement.{statement}
 use Rattle.shapes.proofs.fit.root_program.Tie as tie
 use Rattle.shapes.proofs.fit.root_program.Reads as reads
 use Rattle.shapes.proofs.fit.root_program.Lts as lts
-use Rattle.lists.proofs.nodes.kind_of.Reads as kind-of-reads
-use Rattle.lists.proofs.nodes.node_count.Reads as node-count-reads
+use Rattle.nodes.proofs.kind_of.Reads as kind-of-reads
+use Rattle.nodes.proofs.node_count.Reads as node-count-reads
 
 -- src/fit.rt:64:8
 add-if1 : tie.Need-add-if1

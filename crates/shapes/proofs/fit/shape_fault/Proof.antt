@@ -18,7 +18,7 @@ use Rattle.shapes.proofs.fit.shape_fault.Tie as tie
 use Rattle.shapes.proofs.fit.shape_fault.Reads as reads
 use Rattle.shapes.proofs.fit.shape_fault.Lts as lts
 use Rattle.lists.proofs.children.children_of.Reads as children-of-reads
-use Rattle.lists.proofs.nodes.kind_of.Reads as kind-of-reads
+use Rattle.nodes.proofs.kind_of.Reads as kind-of-reads
 use Rattle.shapes.proofs.fit.fits.Reads as fits-reads
 use Rattle.shapes.proofs.fit.root_program.Reads as root-program-reads
 

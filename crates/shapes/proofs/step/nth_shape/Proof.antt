@@ -9,7 +9,7 @@ use Rattle.shapes.proofs.step.nth_shape.Tie as tie
 use Rattle.shapes.proofs.step.nth_shape.Reads as reads
 use Rattle.shapes.proofs.step.nth_shape.Lts as lts
 use Rattle.columns.proofs.get.Reads as get-reads
-use Rattle.lists.proofs.nodes.wide.Reads as wide-reads
+use Rattle.nodes.proofs.wide.Reads as wide-reads
 
 -- src/step.rt:70:9
 returns : tie.Need-returns

@@ -19,8 +19,8 @@ use Rattle.shapes.proofs.step.write_shapes.Reads as reads
 use Rattle.shapes.proofs.step.write_shapes.Lts as lts
 use Rattle.columns.proofs.put.Reads as put-reads
 use Rattle.lists.proofs.children.children_of.Reads as children-of-reads
-use Rattle.lists.proofs.nodes.kind_of.Reads as kind-of-reads
-use Rattle.lists.proofs.nodes.node_count.Reads as node-count-reads
+use Rattle.nodes.proofs.kind_of.Reads as kind-of-reads
+use Rattle.nodes.proofs.node_count.Reads as node-count-reads
 use Rattle.shapes.proofs.step.shape_step.Reads as shape-step-reads
 
 abbrev Inv-loop : tie.InvT-loop

@@ -11,7 +11,7 @@ use Rattle.verifier.proofs.search.lowest_fault.Statement.{statement}
 use Rattle.verifier.proofs.search.lowest_fault.Tie as tie
 use Rattle.verifier.proofs.search.lowest_fault.Reads as reads
 use Rattle.verifier.proofs.search.lowest_fault.Lts as lts
-use Rattle.lists.proofs.nodes.node_count.Reads as node-count-reads
+use Rattle.nodes.proofs.node_count.Reads as node-count-reads
 use Rattle.verifier.proofs.search.fault_at.Reads as fault-at-reads
 
 abbrev Inv-loop : tie.InvT-loop
