@@ -19,6 +19,3 @@ pub const WORK_PER_POOL: usize = 2;
 
 // "0 to 64 for Bus"
 pub const WIDEST_BUS: usize = 64;
-
-// "k at most 6"; MAX_LUT_SIZE of document 000
-pub const MOST_OPERANDS: usize = 6;
