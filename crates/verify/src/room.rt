@@ -1,4 +1,5 @@
-// Room for a list that a person writes. The limits of document 01 are higher, and so is what they would ask of the stack.
+// Room for a list that a person writes: what the customer asks of every program (request 5). The limits of document 01 are
+// higher, and so is what they would ask of the stack.
 use meaning::limits::WORDS_PER_NODE;
 use meaning::limits::WORK_PER_NODE;
 use meaning::limits::WORK_PER_POOL;
