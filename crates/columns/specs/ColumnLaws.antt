@@ -117,8 +117,8 @@ module _ (q base : ℕ) where
       other : (j : ℕ) → j ≢ i → changed f i v j ≡ f j
       other j e = rw (ne-eqb j i e)
 
-  -- a column written twice holds what was written last
-  with-beside : (n : ℕ) (f : ℕ → ℕ) (work : List ℕ) (k v : ℕ) → ((i : ℕ) → i < n → k ≢ place q (base + i))
+  -- a store elsewhere may come before or after
+  pub with-beside : (n : ℕ) (f : ℕ → ℕ) (work : List ℕ) (k v : ℕ) → ((i : ℕ) → i < n → k ≢ place q (base + i))
       → withColumn q base n f (set work k v) ≡ set (withColumn q base n f work) k v
   unfolding withColumn
   with-beside zero f work k v apart = refl
@@ -126,6 +126,7 @@ module _ (q base : ℕ) where
       ap (λ (w : List ℕ). set w (place q (base + n)) (f n)) (with-beside n f work k v (λ i l. apart i (omega arith)))
       ∙ set-apart (withColumn q base n f work) k (place q (base + n)) v (f n) (apart n (omega arith))
 
+  -- a column written twice holds what was written last
   pub with-again : (n : ℕ) (f g : ℕ → ℕ) (work : List ℕ) → withColumn q base n f (withColumn q base n g work) ≡ withColumn q base n f work
   unfolding withColumn
   with-again zero f g work = refl

@@ -15,6 +15,12 @@ pub const MARK: usize = 0;
 // 0 a Program, 1 a bit, n + 2 a bus of n (Rules/Evaluable, `shapeCode`)
 pub const SHAPE: usize = 1;
 
+// 0 where the node answers a value, 1 to 4 a failure, 5 none (Rules/Pairs, `stateAt`)
+pub const STATE: usize = 2;
+
+// the value, 0 where there is none (Rules/Pairs, `valueAt`)
+pub const VALUE: usize = 3;
+
 // Inner: the word in a column of a row.
 pub fn get(work: &[u64], column: usize, row: usize) -> u64
     requires { ⌜ place column row < length (now work) ⌝ }

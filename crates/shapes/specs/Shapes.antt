@@ -1,6 +1,7 @@
 -- Shapes as the code keeps them: column SHAPE of a node's row holds the shape's code (Rules/Evaluable, `shapeCode`).
-use Prim.Native.Nat.{ℕ, zero, suc, _+_, _*_, _≤_, _<_}
-use mathlib.Core.Path.{_≡_, refl, ap}
+use Prim.Native.Nat.{ℕ, zero, suc, _+_, _-_, _*_, _≤_, _<_}
+use mathlib.Core.Path.{_≡_, refl, sym, ap}
+use mathlib.Core.Logic.{_≢_}
 use mathlib.Core.List.{List, [], _∷_}
 use mathlib.Core.Bool.{Bool, true, cond, not, _&&_, _||_}
 use native.Mathlib.Omega.{arith}
@@ -15,7 +16,7 @@ use Rattle.meaning.specs.Rules.Kinds.{kindOf, programWord}
 use Rattle.meaning.specs.Rules.Trees.{Tree, forest, nodeCount, kindAt, childrenAt, treeOf}
 use Rattle.meaning.specs.Rules.Refusals.{every}
 use Rattle.meaning.specs.Rules.Reach.{markOf}
-use Rattle.meaning.specs.Rules.Evaluable.{Shape, isBit, isLogic, shapeCode, nthShape, shapeStep, shape, shapes, fits, isRoot, shapeFault}
+use Rattle.meaning.specs.Rules.Evaluable.{Shape, bit, program, bus, widthOf, isBit, isLogic, shapeCode, nthShape, shapeStep, shape, shapes, fits, isRoot, shapeFault}
 use Rattle.meaning.specs.Claims.Column.{WellLaid}
 use Rattle.lists.specs.Laid.{children-below}
 use Rattle.columns.specs.Columns.{place, cell, shapeColumn, Column}
@@ -55,6 +56,17 @@ module _ (work : List ℕ) (base : ℕ) where
   holds-none (k ∷ ks) [] h i l = absurd h
   holds-none (k ∷ ks) (s ∷ ss) h zero l = absurd (omega arith)
   holds-none (k ∷ ks) (s ∷ ss) h (suc i) l = holds-none ks ss (h .1) i (omega arith)
+
+-- the width of a value, by its shape's code
+pub bit-width : (s : Shape) → shapeCode s ≡ 1 → 1 ≡ widthOf s
+bit-width bit e = refl
+bit-width program e = absurd (omega arith)
+bit-width (bus n) e = absurd (omega arith)
+
+pub bus-width : (s : Shape) (code : ℕ) → shapeCode s ≡ code → 0 < code → code ≢ 1 → code - 2 ≡ widthOf s
+bus-width bit code e some other = absurd (other (sym e))
+bus-width program code e some other = absurd (omega arith)
+bus-width (bus n) code e some other = omega arith
 
 -- the code of node i's shape
 unfoldable pub shapeAt : List ℕ → List ℕ → ℕ → ℕ

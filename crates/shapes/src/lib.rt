@@ -4,3 +4,4 @@
 // only at a node's mark and its children's shapes; which node is the lowest faulty one is the verifier's to find.
 pub mod fit;
 pub mod step;
+pub mod width;

@@ -23,7 +23,7 @@ pub(crate) const A_PROGRAM: u64 = 0;
 
 pub(crate) const A_BIT: u64 = 1;
 
-const A_BUS: u64 = 2;
+pub(crate) const A_BUS: u64 = 2;
 
 // Inner: column SHAPE of every node of a list past numbers 3 to 5, whose first row is `base`; all else in the work space
 // stays.

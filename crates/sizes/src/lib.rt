@@ -1,5 +1,6 @@
 // Numbers 1, 2 and 10: the sizes of what is lent (document 01, "Numbers a call answers with"). The plain meaning is that of
-// meaning's Rules/Layout. A call asks `sizes` of each list that it is brought, then `room` of what `work_for` sums to.
+// meaning's Rules/Layout. A call that is brought one list asks `lent`; one that is brought more asks `sizes` of each, then
+// `room` of what `work_for` sums to.
 use meaning::Refusal;
 use meaning::limits::MOST_NODES;
 use meaning::limits::MOST_POOL;
@@ -11,13 +12,14 @@ use meaning::numbers::LITTLE_WORK;
 use meaning::numbers::NOT_ALIGNED;
 use meaning::numbers::OVER_LIMIT;
 use nodes::node_count;
+use refusals::first_refusal;
+use refusals::require;
 ghost use mathlib.Core.Path.{_≡_};
 ghost use Prim.Native.Nat.{_≤_};
 ghost use lib.ListN.{length};
 ghost use Rattle.meaning.specs.Rules.Limits.{mostNodes, mostPool};
 ghost use Rattle.meaning.specs.Rules.Trees.{nodeCount};
 ghost use Rattle.meaning.specs.Rules.Refusals.{_then_};
-ghost use Rattle.meaning.specs.Rules.Refusals as refusals;
 ghost use Rattle.meaning.specs.Rules.Layout.{withinLimits, workFor};
 ghost use Rattle.meaning.specs.Rules.Layout as rule;
 
@@ -39,6 +41,17 @@ pub fn work_for(nodes: &[u32], pool: &[u32]) -> usize
     WORK_PER_NODE * node_count(nodes) + WORK_PER_POOL * pool.len()
 }
 
+// Numbers 1, 2 and 10, in that order, of a call that is brought one list and `work` words of work space.
+pub fn lent(nodes: &[u32], pool: &[u32], work: usize) -> Refusal
+    ensures { λ r. ⌜ r ≡ (rule.sizes (now (nodes .entry)) (now (pool .entry)) then rule.room (workFor (now (nodes .entry)) (now (pool .entry))) work) ⌝ }
+{
+    let sized = sizes(nodes, pool);
+    if sized.number != DONE {
+        return sized;
+    }
+    room(work_for(nodes, pool), work)
+}
+
 // 10: of `lent` words of work space, `asked` are needed, "summed over the lists brought".
 pub fn room(asked: usize, lent: usize) -> Refusal
     ensures { λ r. ⌜ r ≡ rule.room asked lent ⌝ }
@@ -51,27 +64,4 @@ fn within_limits(nodes: &[u32], pool: &[u32]) -> bool
     ensures { λ r. ⌜ r ≡ withinLimits (now (nodes .entry)) (now (pool .entry)) ⌝ }
 {
     node_count(nodes) <= MOST_NODES && pool.len() <= MOST_POOL
-}
-
-// A test that names no node: done, or its number.
-fn require(test: bool, number: u32) -> Refusal
-    ensures { λ r. ⌜ r ≡ refusals.require test number ⌝ }
-{
-    if test {
-        return Refusal {
-            number: DONE,
-            node: 0,
-        };
-    }
-    Refusal { number, node: 0 }
-}
-
-// Of two tests in order, the first that refuses; the second where the first is done.
-fn first_refusal(first: Refusal, second: Refusal) -> Refusal
-    ensures { λ r. ⌜ r ≡ (first then second) ⌝ }
-{
-    if first.number == DONE {
-        return second;
-    }
-    first
 }

@@ -1,17 +1,14 @@
 -- The row of tests, and the verifier's call, way by way: what is answered, and what the work space holds.
 use Prim.Native.Nat.{ℕ, _<_}
 use mathlib.Core.Path.{_≡_, refl, sym, ap, ap₂, _∙_}
-use mathlib.Core.Logic.{_⊎_, _≢_, inl, inr, ⊎-elim}
+use mathlib.Core.Logic.{_≢_}
 use mathlib.Core.List.{List, [], _∷_}
-use mathlib.Core.Bool.{true, false, _||_}
 use native.Mathlib.Omega.{arith}
 use lib.ListN.{length}
-use lib.Dec.{eqb}
 use borrow.Author.Tests.{eqb-true, eq-eqb}
 use Rattle.meaning.specs.declared.Refusal.{Refusal}
 use Rattle.meaning.specs.Rules.Trees.{nodeCount}
 use Rattle.meaning.specs.Rules.Numbers.{noRoot}
-use Rattle.meaning.specs.Rules.Assignments.{isIn}
 use Rattle.meaning.specs.Rules.Lent.{cleared}
 use Rattle.meaning.specs.Rules.Refusals.{refuse, _then_, atLowest, workAfter}
 use Rattle.meaning.specs.Rules.Layout.{sizes, workFor, room, layoutFault, layout}
@@ -19,10 +16,10 @@ use Rattle.meaning.specs.Rules.Verification.{verifyFault, verification}
 use Rattle.meaning.specs.Rules.Evaluable.{rooted, shapeFault, evaluability, sound}
 use Rattle.meaning.specs.Rules.Calls.{verifyRefusal, verified, verify}
 use Rattle.meaning.specs.Claims.Terms.{Says}
-use Rattle.meaning.specs.Laws.BoolLaws.{true-false, or-cases}
-use Rattle.meaning.specs.Laws.RefusalLaws.{then-first, work-kept, work-cleared}
-use Rattle.meaning.specs.Laws.NumberLaws.{then-go, then-stop, then-joined, then-says, never, one-number}
-use Rattle.meaning.specs.Laws.ColumnLaws.{sizes-says, room-says, layout-says, verification-says, rooted-passed}
+use Rattle.meaning.specs.Laws.RefusalLaws.{then-first, work-cleared}
+use Rattle.meaning.specs.Laws.NumberLaws.{then-go, then-stop, then-joined, then-says, never}
+use Rattle.meaning.specs.Laws.ColumnLaws.{layout-says, verification-says, rooted-passed}
+use Rattle.sizes.specs.Lent.{lentRow, lent-keeps}
 
 module _ (ns ps : List ℕ) where
   -- ---- each test is a search
@@ -75,37 +72,25 @@ module _ (ns ps : List ℕ) where
   -- ---- the call
   module _ (work : List ℕ) where
     abbrev lent : Refusal
-    lent = room (workFor ns ps) (length work)
+    lent = lentRow ns ps (length work)
 
-    outcome : (r : Refusal) (left : List ℕ) → r ≡ verifyRefusal ns ps (length work) → left ≡ workAfter r work → verified r left ≡ verify ns ps work
+    -- 1, 2 and 10, then the rest
+    row : (lent then toSix) ≡ verifyRefusal ns ps (length work)
+    unfolding verifyRefusal
+    row = then-joined (sizes ns ps) (room (workFor ns ps) (length work)) toSix
+
+    outcome : (r : Refusal) (left : List ℕ) → r ≡ (lent then toSix) → left ≡ workAfter r work → verified r left ≡ verify ns ps work
     unfolding verify
-    outcome r left e f = ap₂ verified e (f ∙ ap (λ (x : Refusal). workAfter x work) e)
+    outcome r left e f = let whole = e ∙ row in ap₂ verified whole (f ∙ ap (λ (x : Refusal). workAfter x work) whole)
 
-    -- 1 or 2 refuses
-    pub refused-sizes : sizes ns ps .number ≢ 0 → verified (sizes ns ps) work ≡ verify ns ps work
-    unfolding verifyRefusal
-    refused-sizes h =
-        outcome (sizes ns ps) work (sym (then-stop (sizes ns ps) (lent then toSix) h))
-        (sym (work-kept (sizes ns ps) work (one-or-two (sizes ns ps .number) h (sizes-says ns ps .within))))
-      where
-        one-or-two : (n : ℕ) → n ≢ 0 → isIn n (0 ∷ 1 ∷ 2 ∷ []) ≡ true → (n ≡ 1) ⊎ (n ≡ 2) ⊎ (n ≡ 10)
-        one-or-two n z e =
-            ⊎-elim (λ a. absurd (z (eqb-true n 0 a)))
-            (λ b. ⊎-elim (λ a. inl (eqb-true n 1 a)) (λ c. ⊎-elim (λ a. inr (inl (eqb-true n 2 a))) (λ d. absurd (true-false d refl)) (or-cases (eqb n 2) false c)) (or-cases (eqb n 1) (eqb n 2 || false) b))
-            (or-cases (eqb n 0) (eqb n 1 || (eqb n 2 || false)) e)
-
-    -- 10 refuses
-    pub refused-room : sizes ns ps .number ≡ 0 → lent .number ≢ 0 → verified lent work ≡ verify ns ps work
-    unfolding verifyRefusal
-    refused-room s h =
-        outcome lent work (sym (then-stop lent toSix h) ∙ sym (then-go (sizes ns ps) (lent then toSix) s))
-        (sym (work-kept lent work (inr (inr (one-number (room-says (workFor ns ps) (length work)) h)))))
+    -- 1, 2 or 10 refuses
+    pub refused-lent : lent .number ≢ 0 → verified lent work ≡ verify ns ps work
+    refused-lent h = outcome lent work (sym (then-stop lent toSix h)) (sym (lent-keeps ns ps work h))
 
     -- the rest of the row answers
-    pub answered : sizes ns ps .number ≡ 0 → lent .number ≡ 0 → verified toSix (cleared work) ≡ verify ns ps work
-    unfolding verifyRefusal cleared
-    answered s h =
-        outcome toSix (cleared work) (sym (then-go lent toSix h) ∙ sym (then-go (sizes ns ps) (lent then toSix) s)) (sym swept)
+    pub answered : lent .number ≡ 0 → verified toSix (cleared work) ≡ verify ns ps work
+    unfolding cleared
+    answered h = outcome toSix (cleared work) (sym (then-go lent toSix h)) (sym swept)
       where
         says : Says toSix (3 ∷ 4 ∷ 5 ∷ 6 ∷ [])
         says = then-says (layout-says ns ps) (verification-says ns ps)

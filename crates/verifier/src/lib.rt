@@ -14,9 +14,7 @@ use nodes::node_count;
 use search::Test;
 use search::lowest_fault;
 use shapes::step::write_shapes;
-use sizes::room;
-use sizes::sizes;
-use sizes::work_for;
+use sizes::lent;
 ghost use mathlib.Core.Path.{_≡_};
 ghost use Prim.Native.Nat.{_+_, _*_, _≤_};
 ghost use lib.ListN.{length};
@@ -34,11 +32,7 @@ ghost use Rattle.verifier.specs.Left.{verifiedWork, soundWork};
 pub fn verify_expr(nodes: &[u32], pool: &[u32], work: &mut [u64]) -> Refusal
     ensures { λ r. ⌜ calls.verified r (now (work .exit)) ≡ calls.verify (now (nodes .entry)) (now (pool .entry)) (now (work .entry)) ⌝ }
 {
-    let sized = sizes(nodes, pool);
-    if sized.number != DONE {
-        return sized;
-    }
-    let lent = room(work_for(nodes, pool), work.len());
+    let lent = lent(nodes, pool, work.len());
     if lent.number != DONE {
         return lent;
     }

@@ -31,6 +31,9 @@ dontCareWord = 2
 abbrev pub variableWord : ℕ
 variableWord = 3
 
+abbrev pub muxWord : ℕ
+muxWord = 5
+
 abbrev pub lutWord : ℕ
 lutWord = 9
 

@@ -1,6 +1,6 @@
 -- `require` meets its contract: the definition's test.
-use Rattle.sizes.proofs.require.Statement.{statement}
-use Rattle.sizes.proofs.require.Tie as tie
+use Rattle.refusals.proofs.require.Statement.{statement}
+use Rattle.refusals.proofs.require.Tie as tie
 
 returns : tie.Need-returns
 returns c = rw (c .if1 .taken)

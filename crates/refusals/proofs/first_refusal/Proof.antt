@@ -1,8 +1,8 @@
 -- `first_refusal` meets its contract: the first test decides the row, or the second does.
 use mathlib.Core.Path.{sym}
 use Rattle.meaning.specs.Laws.NumberLaws.{then-go, then-stop}
-use Rattle.sizes.proofs.first_refusal.Statement.{statement}
-use Rattle.sizes.proofs.first_refusal.Tie as tie
+use Rattle.refusals.proofs.first_refusal.Statement.{statement}
+use Rattle.refusals.proofs.first_refusal.Tie as tie
 
 returns : tie.Need-returns
 returns c =

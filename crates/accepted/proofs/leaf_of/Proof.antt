@@ -1,0 +1,68 @@
+use Rattle.meaning.specs.Rules.Trees.{kindAt, datumAt}
+use Rattle.meaning.specs.declared.Answer.the-variants.{Value}
+use native.Mathlib.Omega.{arith}
+use mathlib.Core.Path.{_≡_, sym, ap, _∙_}
+use borrow.Author.Needs.{needs}
+use Rattle.accepted.proofs.leaf_of.Statement.{statement}
+use Rattle.accepted.proofs.leaf_of.Tie as tie
+use Rattle.accepted.proofs.leaf_of.Reads as reads
+use Rattle.accepted.proofs.leaf_of.Lts as lts
+use Rattle.accepted.proofs.byte_of.Reads as byte-of-reads
+use Rattle.nodes.proofs.first_of.Reads as first-of-reads
+use Rattle.nodes.proofs.kind_of.Reads as kind-of-reads
+use Rattle.operators.proofs.driven_by.Reads as driven-by-reads
+
+-- src/lib.rt:57:9
+first-of-requires : tie.Need-first-of-requires
+first-of-requires c κs = search needs
+
+-- src/lib.rt:58:11
+kind-of-requires : tie.Need-kind-of-requires
+kind-of-requires c κs = search needs
+
+-- src/lib.rt:64:24
+byte-of-requires : tie.Need-byte-of-requires
+byte-of-requires c κs = search needs
+
+-- src/lib.rt:64:14
+driven-by-requires : tie.Need-driven-by-requires
+driven-by-requires c κs = search needs
+
+-- src/lib.rt:51:1
+returns : tie.Need-returns
+unfolding datumAt
+returns c =
+    let s = c .before .before .before .before .before in
+    λ xs.
+    let kind : kindAt (s .args .nodes .now) (s .args .n) ≡ 0 = sym (c .before .kind-of .ensures) ∙ c .match .keys1 in
+    rw kind (ap (Value 1) (c .before .before .first-of .ensures .0))
+
+-- src/lib.rt:51:1
+returns-2 : tie.Need-returns-2
+unfolding datumAt
+returns-2 c =
+    let s = c .before .before .before .before .before in
+    λ xs.
+    let kind : kindAt (s .args .nodes .now) (s .args .n) ≡ 2 = sym (c .before .kind-of .ensures) ∙ c .match .keys2 in
+    rw kind
+
+-- src/lib.rt:51:1
+returns-3 : tie.Need-returns-3
+unfolding datumAt
+returns-3 c =
+    let s = c .before .before .before .before .before .before .before in
+    λ xs.
+    let kind : kindAt (s .args .nodes .now) (s .args .n) ≡ 3 = omega (arith, c .before .before .before .kind-of .ensures, c .before .before .match .rest .1, c .before .before .match .rest .0 .1, s .pre .1 .1, s .pre .1 .0) in
+    rw kind (c .driven-by .ensures ∙ rw (c .before .byte-of .ensures, c .before .before .before .before .first-of .ensures .0))
+
+pub leaf-of-spec : {M : Type 1} → statement M
+leaf-of-spec =
+    tie.close
+    (tie.spec
+    first-of-requires
+    kind-of-requires
+    byte-of-requires
+    driven-by-requires
+    returns
+    returns-2
+    returns-3)

@@ -1,0 +1,2 @@
+-- what the rows of the work space hold, and the answer that a row shows
+pub mod Rows
