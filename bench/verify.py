@@ -1,25 +1,13 @@
 """Times the verifier on the largest lists there are (document 01, "At most 4,096 nodes and 16,384 pool entries").
 
-usage: python3 bench/verify.py [REPEATS]      2000 where none is given; first build: rt check repeat_verify
+usage: python3 bench/verify.py [REPEATS]      2000 where none is given; first build: rt check repeat_call
 
-Each list verifies, so the verifier goes through all of it. target/bin/repeat_verify runs on a list with 0 repeats and
-with REPEATS, in turn and several times over; a call's time is the difference of the shortest of each, divided by
-REPEATS, so that starting the program and reading the list are not counted.
+Each list verifies, so the verifier goes through all of it. How a call is timed: bench/repeat.py.
 """
-import os
-import platform
-import subprocess
-import sys
-import time
+from repeat import ROUNDS, VERIFY, asked, microseconds, processor
 
-HERE = os.path.dirname(os.path.abspath(__file__))
-PROGRAM = os.path.join(HERE, "..", "target", "bin", "repeat_verify")
-sys.path.insert(0, os.path.join(HERE, "..", "vectors"))
-
-from lister import Lister  # noqa: E402
-from model import MOST_MEMBERS, MOST_NODES, MOST_POOL, VARIABLES  # noqa: E402
-
-ROUNDS = 7
+from lister import Lister
+from model import MOST_MEMBERS, MOST_NODES, MOST_POOL, VARIABLES
 
 # ---- the lists
 
@@ -72,50 +60,14 @@ def checked(name):
     return nodes, pool
 
 
-# ---- the times
-
-
-def seconds(repeats, nodes, pool):
-    text = " ".join(map(str, [repeats, len(nodes), len(pool), *nodes, *pool])) + "\n"
-    before = time.perf_counter()
-    done = subprocess.run([PROGRAM], input=text.encode(), capture_output=True, check=True)
-    after = time.perf_counter()
-    assert done.stdout == f"number 0 at node 0, {repeats} times\n".encode(), done.stdout
-    return after - before
-
-
-def microseconds(repeats, nodes, pool):
-    none, all_of_them = [], []
-    for _ in range(ROUNDS):
-        none.append(seconds(0, nodes, pool))
-        all_of_them.append(seconds(repeats, nodes, pool))
-    return (min(all_of_them) - min(none)) / repeats * 1e6
-
-
-def processor():
-    try:
-        with open("/proc/cpuinfo", encoding="utf-8") as file:
-            for line in file:
-                if line.startswith("model name"):
-                    return line.split(":", 1)[1].strip()
-    except OSError:
-        pass
-    return platform.processor() or platform.machine()
-
-
 def main():
-    words = sys.argv[1:]
-    if len(words) > 1 or not all(word.isdecimal() and int(word) > 0 for word in words):
-        print(__doc__)
-        return 2
-    repeats = int(words[0]) if words else 2000
+    repeats = asked(__doc__, 2000)
     print("input   nodes  entries  microseconds a call")
     for name in LISTS:
         nodes, pool = checked(name)
-        print(f"{name:6} {len(nodes) // 3:6} {len(pool):8} {microseconds(repeats, nodes, pool):20.1f}")
+        print(f"{name:6} {len(nodes) // 3:6} {len(pool):8} {microseconds(VERIFY, repeats, nodes, pool):20.1f}")
     print(f"best of {ROUNDS} rounds of {repeats} calls, on {processor()}")
-    return 0
 
 
 if __name__ == "__main__":
-    sys.exit(main())
+    main()

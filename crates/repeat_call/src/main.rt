@@ -1,5 +1,9 @@
-// Runs the verifier on one list so many times: what bench/verify.py times. Standard input is decimal words: how many times,
-// how many node words, how many pool entries, and then those words, each below 2^32.
+// Runs a call on one list so many times: what the scripts of bench/ time. Standard input is decimal words: which call, how many
+// times, how many node words, how many pool entries, and then those words, each below 2^32.
+mod calls;
+
+use calls::Tally;
+use calls::repeated;
 use decimals::Row;
 use decimals::Word;
 use decimals::next_row;
@@ -12,13 +16,11 @@ use list_words::next_list;
 use list_words::node_room;
 use list_words::pool_room;
 use list_words::work_room;
-use meaning::Refusal;
 use meaning::limits::WORDS_PER_NODE;
 use meaning::limits::WORK_PER_NODE;
 use meaning::limits::WORK_PER_POOL;
 use replay_report::malformed;
 use replay_report::too_long;
-use verifier::verify_expr;
 ghost use Prim.Native.Nat.{_≤_};
 ghost use lib.ListN.{length};
 ghost use Rattle.list_words.specs.Room.{nodeRoom, poolRoom, workRoom};
@@ -42,16 +44,8 @@ fn is_at_end(text: &[u8], at: usize) -> bool {
     }
 }
 
-// The last answer; after the first call each finds the work space as the one before it left it.
-fn repeated(repeats: u64, nodes: &[u32], pool: &[u32], work: &mut [u64]) -> Refusal {
-    let mut given = Refusal { number: 0, node: 0 };
-    for i in 0..repeats {
-        given = verify_expr(nodes, pool, work);
-    }
-    given
-}
-
 fn run(
+    which: u64,
     repeats: u64,
     text: &[u8],
     at: usize,
@@ -65,7 +59,7 @@ fn run(
             if !is_at_end(text, next) {
                 return malformed(next);
             }
-            told(repeated(repeats, nodes, pool, work), repeats)
+            told(repeated(which, repeats, nodes, pool, work), repeats)
         }
         Entries::Bad(offset) => malformed(offset),
     }
@@ -73,7 +67,7 @@ fn run(
 
 // Lends of the room what the row says.
 fn run_in_room(
-    row: &[u64; 3],
+    row: &[u64; 4],
     text: &[u8],
     at: usize,
     nodes: &mut [u32],
@@ -82,17 +76,18 @@ fn run_in_room(
 )
     requires { ⌜ (nodeRoom ≤ length (now nodes)) × (poolRoom ≤ length (now pool)) × (workRoom ≤ length (now work)) ⌝ }
 {
-    if row[1] > NODE_ROOM as u64 {
+    if row[2] > NODE_ROOM as u64 {
         return malformed(0);
     }
-    if row[2] > POOL_ROOM as u64 {
+    if row[3] > POOL_ROOM as u64 {
         return malformed(0);
     }
-    let words = row[1] as usize;
-    let entries = row[2] as usize;
+    let words = row[2] as usize;
+    let entries = row[3] as usize;
     let room = asked(words, entries);
     run(
         row[0],
+        row[1],
         text,
         at,
         &mut nodes[..words],
@@ -101,7 +96,7 @@ fn run_in_room(
     )
 }
 
-fn run_row(row: &[u64; 3], text: &[u8], at: usize) {
+fn run_row(row: &[u64; 4], text: &[u8], at: usize) {
     let mut nodes = node_room();
     let mut pool = pool_room();
     let mut work = work_room();
@@ -109,7 +104,7 @@ fn run_row(row: &[u64; 3], text: &[u8], at: usize) {
 }
 
 fn start(text: &[u8]) {
-    let mut row = [0u64; 3];
+    let mut row = [0u64; 4];
     let reading = next_row(text, 0, &mut row);
     match reading {
         Row::Whole(next) => run_row(&row, text, next),
@@ -120,20 +115,22 @@ fn start(text: &[u8]) {
 
 // ---- what is printed
 
-fn told(given: Refusal, repeats: u64) {
+fn told(given: Tally, repeats: u64) {
     io::write_all(STDOUT_FILENO, b"number ");
-    io::print_decimal(STDOUT_FILENO, given.number as u64);
+    io::print_decimal(STDOUT_FILENO, given.refusal.number as u64);
     io::write_all(STDOUT_FILENO, b" at node ");
-    io::print_decimal(STDOUT_FILENO, given.node as u64);
+    io::print_decimal(STDOUT_FILENO, given.refusal.node as u64);
     io::write_all(STDOUT_FILENO, b", ");
     io::print_decimal(STDOUT_FILENO, repeats);
-    io::write_all(STDOUT_FILENO, b" times\n");
+    io::write_all(STDOUT_FILENO, b" times, the root not 0 in ");
+    io::print_decimal(STDOUT_FILENO, given.nonzero);
+    io::write_all(STDOUT_FILENO, b"\n");
 }
 
 fn usage() {
     io::write_all(
         STDOUT_FILENO,
-        b"no list. usage: repeat_verify < FILE, of decimal words: repeats, node words, pool entries, then the list\n",
+        b"no list. usage: repeat_call < FILE, of decimal words: the call (0 verify, 1 evaluate, 2 the pass alone), repeats, node words, pool entries, then the list\n",
     );
 }
 
