@@ -153,6 +153,102 @@ def drawn_list(rng):
             return drawing.words()
 
 
+# ---- an evaluable list drawn at random
+
+
+class Evaluable(Drawing):
+    """A list that is evaluable: each node is over lower ones of the shapes that its kind takes."""
+
+    def __init__(self, rng):
+        super().__init__(rng)
+        self.shapes = []  # of each node, 1 a bit, (n,) a bus of n; None for a Program
+        self.may_fail = rng.random() < 0.5
+
+    def put(self, name, *children, fields=None):
+        number = super().put(name, *children, fields=fields)
+        below = [self.shapes[child] for child in children]
+        shape = {"Program": None, "Bus": (len(children),), "Mux": below[1] if name == "Mux" else 1}.get(name, 1)
+        self.shapes.append(below[0] if name in ("And", "Nor", "Xor", "Not", "Cycle") else shape)
+        return number
+
+    def of_shape(self, shape):
+        """A node of this shape, most often one without a parent; a new one where there is none."""
+        nodes = self.loose if self.rng.random() < 0.6 else range(len(self.kinds))
+        found = [node for node in nodes if self.shapes[node] == shape]
+        if found:
+            return self.rng.choice(found)
+        return self.leaf() if shape == 1 else self.bus(shape[0])
+
+    def some_shape(self):
+        buses = [shape for shape in self.shapes if shape not in (None, 1)]
+        return self.rng.choice(buses) if buses and self.rng.random() < 0.5 else 1
+
+    def leaf(self):
+        name = self.rng.choice(["Var"] * 4 + ["Const"] + ["DC"] * self.may_fail)
+        first = {"Var": self.rng.randrange(6), "Const": self.rng.randint(0, 1), "DC": 0}[name]
+        return self.put(name, fields=(first, 0))
+
+    def bus(self, width):
+        return self.put("Bus", *[self.of_shape(1) for _ in range(width)])
+
+    def lut(self):
+        k = self.rng.choice([0, 1, 2, 2, 3, 3, 4, 5, 6])
+        operands = [self.of_shape(1) for _ in range(k)]
+        return self.put("Lut", self.some_program(self.rng.randrange(2 ** 2 ** k)), *operands)
+
+    def gate(self, name):
+        shape = self.some_shape()
+        selector = [self.of_shape(1)] if name == "Mux" else []
+        return self.put(name, *selector, *[self.of_shape(shape) for _ in range(1 if name in ("Not", "Cycle") else 2)])
+
+    def node(self):
+        failing = ["Fdre", "Fdse", "Fdpe", "Fdce", "Arg", "Arg"] * self.may_fail
+        gates = ["And", "Nor", "Xor", "Mux"] * 3
+        name = self.rng.choice(["leaf"] * 4 + ["Lut"] * 4 + gates + ["Not", "Cycle", "Bus"] + failing)
+        if name == "leaf":
+            return self.leaf()
+        if name == "Lut":
+            return self.lut()
+        if name == "Arg":
+            return self.arg()
+        if name == "Bus":
+            return self.bus(self.rng.choice([0, 1, 2, 2, 3, 4]))
+        if name.startswith("Fd"):
+            return self.put(name, *[self.of_shape(self.some_shape()) for _ in range(4)])
+        return self.gate(name)
+
+    def join(self):
+        """Puts gates over nodes of one shape that have no parent, and at last a Cycle for each that an Arg asks.
+
+        What is left of other shapes is not reached, or is below a register."""
+        rng = self.rng
+        while True:
+            shapes = [self.shapes[node] for node in self.loose]
+            alike = [node for node in self.loose if shapes.count(self.shapes[node]) > 1]
+            if not alike:
+                break
+            first = alike[0]
+            second = next(node for node in alike[1:] if self.shapes[node] == self.shapes[first])
+            self.put(rng.choice(["And", "Nor", "Xor"]), first, second)
+        if len(self.loose) > 1 and rng.random() < 0.3:
+            self.put(rng.choice(["Fdre", "Fdce"]), *(self.loose * 4)[:4])
+        root = rng.choice(self.loose) if self.loose else self.leaf()
+        while self.needs[root] > 0 or root != len(self.kinds) - 1:
+            root = self.put("Cycle", root)
+
+
+def evaluable_list(rng):
+    """An evaluable list of 3 to 25 nodes."""
+    while True:
+        drawing = Evaluable(rng)
+        size = rng.choice([3, 4, 5, 6, 7, 8, 9, 10, 11, 12, 14, 16, 18])
+        while len(drawing.kinds) < size:
+            drawing.node()
+        drawing.join()
+        if 3 <= len(drawing.kinds) <= 25:
+            return drawing.words()
+
+
 # ---- a list damaged
 
 

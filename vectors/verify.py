@@ -9,8 +9,8 @@ what vectors/model.py computes; an answer that is written out here must be the m
 
 A case is one line of decimal words, as crates/replay_verify/src/cases.rt says:
   node_words pool_entries work_words  number node cleared  node words..  pool entries..
-The work space lent before the call holds 1, 2, 3 ..; cleared is 1 where it is to be all zeros, 0 where it is to be
-untouched. The same cases come out at each run, byte for byte: the drawn ones are from a fixed seed.
+The work space lent before the call holds no 0 and no two words alike; cleared is 1 where it is to be all zeros, 0 where
+it is to be untouched. The same cases come out at each run, byte for byte: the drawn ones are from a fixed seed.
 """
 import os
 import random

@@ -4,6 +4,7 @@
 // specs/Rows, `Prepared`), as `verifier::sound` leaves them, and calls `pass`, for each assignment anew. Its contract is an equation for the
 // whole work space (specs/Written, `withPairs`): columns STATE and VALUE of the list's rows, and nothing else, are written. That
 // the answers are those of the plain evaluator is specs/Same.
+use answer_words::words_of;
 use columns::MARK;
 use columns::STATE;
 use columns::VALUE;
@@ -12,8 +13,6 @@ use columns::put;
 use meaning::kinds::PROGRAM;
 use nodes::kind_of;
 use nodes::node_count;
-use rows::state_of;
-use rows::value_of;
 use steps::answer_of;
 ghost use mathlib.Core.Path.{_≡_};
 ghost use Prim.Native.Nat.{_<_};
@@ -64,9 +63,9 @@ fn pair_of(nodes: &[u32], pool: &[u32], bytes: &[u8], base: usize, work: &[u64],
             value: 0,
         };
     }
-    let answer = answer_of(nodes, pool, bytes, base, work, n);
+    let shown = words_of(answer_of(nodes, pool, bytes, base, work, n));
     Pair {
-        state: state_of(answer),
-        value: value_of(answer),
+        state: shown.state,
+        value: shown.value,
     }
 }

@@ -1,4 +1,5 @@
 // The calls that are timed, each so many times over one list.
+use answer_words::words_of;
 use columns::VALUE;
 use columns::get;
 use evaluator::eval;
@@ -6,7 +7,6 @@ use meaning::Refusal;
 use meaning::numbers::DONE;
 use nodes::node_count;
 use pass::pass;
-use rows::value_of;
 use sizes::lent;
 use verifier::sound;
 use verifier::verify_expr;
@@ -56,7 +56,7 @@ fn evaluated(repeats: u64, nodes: &[u32], pool: &[u32], work: &mut [u64]) -> Tal
         let given = eval(nodes, pool, &bytes, work, &mut out);
         let answer = given.answer;
         refusal = given.refusal;
-        nonzero = nonzero + one_if_not_0(value_of(answer));
+        nonzero = nonzero + one_if_not_0(words_of(answer).value);
     }
     Tally { refusal, nonzero }
 }

@@ -2,11 +2,12 @@
 // them differ, be it in the answer or in what is left of the work space. The cases are made by vectors/verify.py, which has
 // the answers from a model of document 01.
 mod cases;
-mod work;
 
 use cases::Case;
 use cases::Header;
 use cases::next_header;
+use lent_words::fill;
+use lent_words::is_left;
 use libc::STDOUT_FILENO;
 use list_words::Entries;
 use list_words::next_list;
@@ -53,9 +54,9 @@ fn is_answer(given: Refusal, case: Case) -> bool {
 fn compared(number: u64, case: Case, nodes: &[u32], pool: &[u32], lent: &mut [u64]) -> u64
     ensures { λ r. ⌜ r ≤ 1 ⌝ }
 {
-    work::fill(lent);
+    fill(lent);
     let given = verify_expr(nodes, pool, lent);
-    let left = work::is_left(lent, case.cleared);
+    let left = is_left(lent, 0, case.cleared);
     if is_answer(given, case) && left {
         return 0;
     }

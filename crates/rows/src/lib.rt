@@ -1,6 +1,6 @@
-// Answers as words, and a node's row of the work space as an answer (document 01, "Answers of a node": "0 and the value (its
-// width is the node's shape), 1 to 4 for a failure and 0"). The plain meaning is meaning's Rules/Answers, `stateOf` and `valueOf`,
-// and specs/Rows, `fromRow`; there too stand what the rows hold before the pass (`Prepared`) and while it goes (`Filled`).
+// A node's row of the work space as an answer (document 01, "Answers of a node": "0 and the value (its width is the node's shape),
+// 1 to 4 for a failure and 0"). The plain meaning is specs/Rows, `fromRow`; there too stand what the rows hold before the pass
+// (`Prepared`) and while it goes (`Filled`).
 use columns::SHAPE;
 use columns::STATE;
 use columns::VALUE;
@@ -12,42 +12,9 @@ ghost use mathlib.Core.Path.{_≡_};
 ghost use Prim.Native.Nat.{_+_, _*_, _≤_};
 ghost use lib.ListN.{length};
 ghost use Rattle.meaning.specs.Rules.Limits.{workPerNode};
-ghost use Rattle.meaning.specs.Rules.Answers.{stateOf, valueOf, failureNumber};
 ghost use Rattle.meaning.specs.Rules.Evaluable.{Shape, shapeCode, widthOf};
 ghost use Rattle.columns.specs.Columns.{cell, shapeColumn, stateColumn, valueColumn};
 ghost use Rattle.rows.specs.Rows.{Wide, failureNumbered, fromRow};
-
-// 0 for a value, else the failure's number
-pub fn state_of(answer: Answer) -> u64
-    ensures { λ r. ⌜ r ≡ stateOf answer ⌝ }
-{
-    match answer {
-        Answer::Value { .. } => 0,
-        Answer::Failed(failure) => failure_number(failure),
-    }
-}
-
-// The value; 0 for a failure
-pub fn value_of(answer: Answer) -> u64
-    ensures { λ r. ⌜ r ≡ valueOf answer ⌝ }
-{
-    let Answer::Value { value, .. } = answer else {
-        return 0;
-    };
-    value
-}
-
-// "a failure: 1 undriven, 2 DC, 3 register, 4 ARG"
-fn failure_number(failure: Failure) -> u64
-    ensures { λ r. ⌜ r ≡ failureNumber failure ⌝ }
-{
-    match failure {
-        Failure::Undriven => 1,
-        Failure::DontCare => 2,
-        Failure::Register => 3,
-        Failure::Argument => 4,
-    }
-}
 
 // The failure of that number.
 fn failure_of(state: u64) -> Failure

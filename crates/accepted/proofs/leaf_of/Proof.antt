@@ -1,8 +1,12 @@
-use Rattle.meaning.specs.Rules.Trees.{kindAt, datumAt}
+use Rattle.meaning.specs.Rules.Assignments.{given}
+use Rattle.meaning.specs.Rules.Answers.{driven}
+use Rattle.meaning.specs.Rules.Trees.{kindAt, firstAt, datumAt}
 use Rattle.meaning.specs.declared.Answer.the-variants.{Value}
+use mathlib.Core.List.{List}
+use Prim.Native.Nat.{ℕ}
+use borrow.Author.Needs.{needs}
 use native.Mathlib.Omega.{arith}
 use mathlib.Core.Path.{_≡_, sym, ap, _∙_}
-use borrow.Author.Needs.{needs}
 use Rattle.accepted.proofs.leaf_of.Statement.{statement}
 use Rattle.accepted.proofs.leaf_of.Tie as tie
 use Rattle.accepted.proofs.leaf_of.Reads as reads
@@ -34,7 +38,8 @@ unfolding datumAt
 returns c =
     let s = c .before .before .before .before .before in
     λ xs.
-    let kind : kindAt (s .args .nodes .now) (s .args .n) ≡ 0 = sym (c .before .kind-of .ensures) ∙ c .match .keys1 in
+    let ns : List ℕ = s .args .nodes .now in
+    let kind : kindAt ns (s .args .n) ≡ 0 = sym (c .before .kind-of .ensures) ∙ c .match .keys1 in
     rw kind (ap (Value 1) (c .before .before .first-of .ensures .0))
 
 -- src/lib.rt:51:1
@@ -43,7 +48,8 @@ unfolding datumAt
 returns-2 c =
     let s = c .before .before .before .before .before in
     λ xs.
-    let kind : kindAt (s .args .nodes .now) (s .args .n) ≡ 2 = sym (c .before .kind-of .ensures) ∙ c .match .keys2 in
+    let ns : List ℕ = s .args .nodes .now in
+    let kind : kindAt ns (s .args .n) ≡ 2 = sym (c .before .kind-of .ensures) ∙ c .match .keys2 in
     rw kind
 
 -- src/lib.rt:51:1
@@ -51,9 +57,13 @@ returns-3 : tie.Need-returns-3
 unfolding datumAt
 returns-3 c =
     let s = c .before .before .before .before .before .before .before in
+    let n = s .args .n in
     λ xs.
-    let kind : kindAt (s .args .nodes .now) (s .args .n) ≡ 3 = omega (arith, c .before .before .before .kind-of .ensures, c .before .before .match .rest .1, c .before .before .match .rest .0 .1, s .pre .1 .1, s .pre .1 .0) in
-    rw kind (c .driven-by .ensures ∙ rw (c .before .byte-of .ensures, c .before .before .before .before .first-of .ensures .0))
+    let ns : List ℕ = s .args .nodes .now in
+    let kind : kindAt ns n ≡ 3 = omega (arith, c .before .before .before .kind-of .ensures, c .before .before .match .rest .1, c .before .before .match .rest .0 .1, s .pre .1 .1, s .pre .1 .0) in
+    let bytes : List ℕ = s .args .bytes .now in
+    let byte : c .before .byte-of .result ≡ given bytes (firstAt ns n) = c .before .byte-of .ensures ∙ ap (given bytes) (c .before .before .before .before .first-of .ensures .0) in
+    rw kind (c .driven-by .ensures ∙ ap driven byte)
 
 pub leaf-of-spec : {M : Type 1} → statement M
 leaf-of-spec =

@@ -1,16 +1,23 @@
+use lib.Dec.{eqb}
+use mathlib.Core.Path.{_≡_}
+use mathlib.Core.Bool.{true, false}
 use borrow.Author.Tests.{eq-eqb, ne-eqb}
 use Rattle.operators.proofs.arm_of.Statement.{statement}
 use Rattle.operators.proofs.arm_of.Tie as tie
 use Rattle.operators.proofs.arm_of.Reads as reads
 use Rattle.operators.proofs.arm_of.Lts as lts
 
--- src/lib.rt:108:9
+-- src/lib.rt:105:9
 returns : tie.Need-returns
-returns c = simp (eq-eqb _ _ (c .if1 .taken))
+returns c =
+    let s = c .before in
+    let zero : eqb (s .args .selector) 0 ≡ true = eq-eqb (s .args .selector) 0 (c .if1 .taken) in rw zero
 
--- src/lib.rt:104:1
+-- src/lib.rt:101:1
 returns-2 : tie.Need-returns-2
-returns-2 c = simp (ne-eqb _ _ (c .if1 .left))
+returns-2 c =
+    let s = c .before in
+    let one : eqb (s .args .selector) 0 ≡ false = ne-eqb (s .args .selector) 0 (c .if1 .left) in rw one
 
 pub arm-of-spec : {M : Type 1} → statement M
 arm-of-spec = tie.close (tie.spec returns returns-2)

@@ -1,16 +1,25 @@
+use Rattle.meaning.specs.Rules.Answers.{undrivenByte}
+use lib.Dec.{ltb}
+use native.Mathlib.Omega.{arith}
+use mathlib.Core.Path.{_≡_}
+use mathlib.Core.Bool.{true, false}
 use borrow.Author.Tests.{lt-ltb, le-ltb}
 use Rattle.operators.proofs.driven_by.Statement.{statement}
 use Rattle.operators.proofs.driven_by.Tie as tie
 use Rattle.operators.proofs.driven_by.Reads as reads
 use Rattle.operators.proofs.driven_by.Lts as lts
 
--- src/lib.rt:147:9
+-- src/lib.rt:144:9
 returns : tie.Need-returns
-returns c = simp (lt-ltb _ _ (c .if1 .taken))
+returns c =
+    let s = c .before in
+    let bit : ltb (s .args .byte) undrivenByte ≡ true = lt-ltb (s .args .byte) undrivenByte (omega (arith, c .if1 .taken)) in rw bit
 
--- src/lib.rt:143:1
+-- src/lib.rt:140:1
 returns-2 : tie.Need-returns-2
-returns-2 c = simp (le-ltb _ _ (c .if1 .left))
+returns-2 c =
+    let s = c .before in
+    let none : ltb (s .args .byte) undrivenByte ≡ false = le-ltb (s .args .byte) undrivenByte (omega (arith, c .if1 .left)) in rw none
 
 pub driven-by-spec : {M : Type 1} → statement M
 driven-by-spec = tie.close (tie.spec returns returns-2)

@@ -1,16 +1,23 @@
+use lib.Dec.{eqb}
+use mathlib.Core.Path.{_≡_}
+use mathlib.Core.Bool.{true, false}
 use borrow.Author.Tests.{eq-eqb, ne-eqb}
 use Rattle.operators.proofs.zeros_or.Statement.{statement}
 use Rattle.operators.proofs.zeros_or.Tie as tie
 use Rattle.operators.proofs.zeros_or.Reads as reads
 use Rattle.operators.proofs.zeros_or.Lts as lts
 
--- src/lib.rt:54:9
+-- src/lib.rt:51:9
 returns : tie.Need-returns
-returns c = simp (eq-eqb _ _ (c .if1 .taken))
+returns c =
+    let s = c .before in
+    let zero : eqb (s .args .value) 0 ≡ true = eq-eqb (s .args .value) 0 (c .if1 .taken) in rw zero
 
--- src/lib.rt:50:1
+-- src/lib.rt:47:1
 returns-2 : tie.Need-returns-2
-returns-2 c = simp (ne-eqb _ _ (c .if1 .left))
+returns-2 c =
+    let s = c .before in
+    let other : eqb (s .args .value) 0 ≡ false = ne-eqb (s .args .value) 0 (c .if1 .left) in rw other
 
 pub zeros-or-spec : {M : Type 1} → statement M
 zeros-or-spec = tie.close (tie.spec returns returns-2)

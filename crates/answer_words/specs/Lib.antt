@@ -1,0 +1,2 @@
+-- the words of an answer
+pub mod Said
