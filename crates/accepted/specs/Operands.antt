@@ -49,8 +49,9 @@ pub record Operand (ns ps : List ℕ) (n i : ℕ) : Type 0 where
   pub inside : i < length (childrenAt ns ps n)
   pub used : takes (kindOf (kindAt ns n)) i ≡ true
 
--- node c is operand i of node n: it has an answer, which stands at i among the answers that n's is made of
+-- node c is child i of node n and an operand: it has an answer, which stands at i among the answers that n's is made of
 pub record Child (ns ps : List ℕ) (n i c : ℕ) : Type 0 where
+  pub is : c ≡ getD (childrenAt ns ps n) i 0
   pub below : c < n
   pub logic : Logic ns ps c
   pub shaped : isLogic (shape (treeOf ns ps c)) ≡ true
@@ -185,6 +186,7 @@ module _ (ns ps : List ℕ) (s : Sound ns ps) (n : ℕ) where
         let inside : getD (childrenAt ns ps n) i 0 < nodeCount ns = omega (arith, g .inside, below) in
         let logic = child-logic i o in
         rw e (record {
+          is = refl;
           below = below;
           logic = record {
             inside = inside;

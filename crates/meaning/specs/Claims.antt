@@ -8,6 +8,8 @@ pub mod Demands
 -- ---- each number exactly when: the calls over node lists; the truth-table routines and the verdict's name
 pub mod Numbers
 pub mod Tables
+-- ---- what each node's pair says, and where it stands
+pub mod Pairs
 -- ---- no second outcome meets a contract
 pub mod Only
 -- ---- reachable and least Cycle depth mean paths; the tests of equality mean equality

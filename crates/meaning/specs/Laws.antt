@@ -8,6 +8,7 @@ pub mod TreeLaws
 pub mod WordLaws
 pub mod TableLaws
 pub mod AssignmentLaws
+pub mod PairLaws
 pub mod RefusalLaws
 -- ---- the table of numbers: tests as statements, rows of tests, each test's numbers, and the range of a routine
 pub mod TestLaws

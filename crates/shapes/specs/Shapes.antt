@@ -1,6 +1,6 @@
 -- Shapes as the code keeps them: column SHAPE of a node's row holds the shape's code (Rules/Evaluable, `shapeCode`).
 use Prim.Native.Nat.{ℕ, zero, suc, _+_, _-_, _*_, _≤_, _<_}
-use mathlib.Core.Path.{_≡_, refl, sym, ap}
+use mathlib.Core.Path.{_≡_, refl, sym, ap, _∙_}
 use mathlib.Core.Logic.{_≢_}
 use mathlib.Core.List.{List, [], _∷_}
 use mathlib.Core.Bool.{Bool, true, cond, not, _&&_, _||_}
@@ -67,6 +67,16 @@ pub bus-width : (s : Shape) (code : ℕ) → shapeCode s ≡ code → 0 < code �
 bus-width bit code e some other = absurd (other (sym e))
 bus-width program code e some other = absurd (omega arith)
 bus-width (bus n) code e some other = omega arith
+
+-- every code but a Program's is a shape's, so no second width meets the promise of `width_of`
+pub coded : (code : ℕ) → 0 < code → (s : Shape) × (shapeCode s ≡ code)
+coded zero some = absurd (omega arith)
+coded (suc zero) some = (bit, refl)
+coded (suc (suc n)) some = (bus n, omega arith)
+
+pub width-only : (code : ℕ) → 0 < code → {r r′ : ℕ} → ((s : Shape) → shapeCode s ≡ code → r ≡ widthOf s)
+    → ((s : Shape) → shapeCode s ≡ code → r′ ≡ widthOf s) → r ≡ r′
+width-only code some e f = let c = coded code some in e (c .0) (c .1) ∙ sym (f (c .0) (c .1))
 
 -- the code of node i's shape
 unfoldable pub shapeAt : List ℕ → List ℕ → ℕ → ℕ

@@ -82,6 +82,10 @@ swap-pos-only p k pos r r′ e f = table-program-only r r′ (e ∙ sym f)
 pub verdict-only : {A : Type 0} (said : A) {r r′ : A} → r ≡ said → r′ ≡ said → r ≡ r′
 verdict-only said e f = e ∙ sym f
 
+-- an answer that is promised of every x, of which there is one
+pub each-only : {A B : Type 0} (said : A → B) (x : A) {r r′ : B} → ((y : A) → r ≡ said y) → ((y : A) → r′ ≡ said y) → r ≡ r′
+each-only said x e f = e x ∙ sym (f x)
+
 pub display-only : (c : Check) (out : List ℕ) (r r′ : Written) {o o′ : List ℕ}
     → displayed r o ≡ display c out → displayed r′ o′ ≡ display c out → (r ≡ r′) × (o ≡ o′)
 display-only c out r r′ p q =

@@ -1,4 +1,6 @@
-use Rattle.rows.specs.Rows.{pair-logic, pair-unreached, pair-program}
+use mathlib.Core.Logic.{inl}
+use Rattle.meaning.specs.Claims.Pairs.{pair-none}
+use Rattle.rows.specs.Rows.{pair-logic, pair-unreached}
 use Rattle.answer_words.specs.declared.Words.{Words}
 use Rattle.accepted.specs.Nodes.{Logic}
 use Rattle.meaning.specs.Rules.Assignments.{given}
@@ -42,7 +44,7 @@ kind-of-requires c κs = search needs
 returns-2 : tie.Need-returns-2
 returns-2 c =
     let s = c .before .before .before .before .before .before .before .before in
-    let p = pair-program (s .args .nodes .now) (s .args .pool .now) (given (s .args .bytes .now)) (s .args .n) (sym (c .before .kind-of .ensures) ∙ c .if2 .taken) in (sym (p .0), sym (p .1))
+    let p = pair-none (s .args .nodes .now) (s .args .pool .now) (given (s .args .bytes .now)) (s .args .n) (inl (sym (c .before .kind-of .ensures) ∙ c .if2 .taken)) in (sym (p .0), sym (p .1))
 
 -- src/lib.rt:66:26
 answer-of-requires : tie.Need-answer-of-requires
