@@ -2,10 +2,11 @@
 
 usage: python3 bench/evaluate.py [REPEATS]      20000 where none is given; first build: rt check repeat_call
 
-Each call is under another assignment: bit v of the call's number drives variable v. Every variable is driven, so that no
-failure shortens a node's work. The pass alone is over a list that was accepted once, as a comparison runs it; an evaluation
-verifies, passes, writes the pairs and clears the work space. Before anything is timed, both are run under the same
-assignments, and the root's values are held against vectors/model.py's. How a call is timed: bench/repeat.py.
+Each call is under another assignment: bit v of the call's number drives variable v. Every variable is driven, so that
+no failure shortens a node's work. The pass alone is over a list that was accepted once, as a comparison runs it; an
+evaluation verifies, passes, writes the pairs and clears the work space. Before anything is timed, both are run under
+the same assignments, and the root's values are held against those computed here, gate by gate. How a call is timed:
+bench/repeat.py.
 """
 import random
 
@@ -20,8 +21,8 @@ HELD = 300
 
 
 def gates(kinds):
-    """GATES nodes of these kinds over the leaves, each over the node that has waited longest for a parent and any other lower
-    one; the last join what is left, so that the root reaches every node."""
+    """GATES nodes of these kinds over the leaves, each over the node that has waited longest for a parent and any other
+    lower one; the last join what is left, so that the root reaches every node."""
     rng = random.Random(SEED)
     to = Lister()
     lower = [to.var(v) for v in range(INPUTS)]

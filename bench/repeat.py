@@ -1,6 +1,6 @@
-"""How the scripts here time a call: target/bin/repeat_call runs it on one list with 0 repeats and with many, in turn and several
-times over; a call's time is the difference of the shortest of each, divided by the repeats, so that starting the program and
-reading the list are not counted. Build it first: rt check repeat_call
+"""How the scripts here time a call: target/bin/repeat_call runs it on one list with 0 repeats and with many, in turn
+and several times over; a call's time is the difference of the shortest of each, divided by the repeats, so that
+starting the program and reading the list are not counted. Build it first: rt check repeat_call
 """
 import os
 import platform

@@ -1,7 +1,8 @@
-// A list past number 8 (document 01, "Evaluable"), as an evaluator reads it: the operands and the program of a node, and the
-// answers of its leaves. What that list gives each node is in specs/Nodes; that an answer is as wide as the node's shape, in
-// specs/AnswerWidths; what is asked at each kind, in specs/Operands. All functions here are inner: their callers have the
-// list accepted (Claims/Column, `Sound`) and ask of nodes that have an answer (`Logic`: reachable, and no Program).
+// A list past number 8 (document 01, "Evaluable"), as an evaluator reads it: the operands and the program of a node,
+// and the answers of its leaves. What that list gives each node is in specs/Nodes; that an answer is as wide as the
+// node's shape, in specs/AnswerWidths; what is asked at each kind, in specs/Operands. All functions here are inner:
+// their callers have the list accepted (Claims/Column, `Sound`) and ask of nodes that have an answer (`Logic`:
+// reachable, and no Program).
 use lists::children::children_of;
 use meaning::Answer;
 use meaning::Failure;

@@ -1,6 +1,7 @@
-// Words bit by bit, for the crates above: a power of two, the all-ones word, one bit, the low bits, two parts joined, and
-// the width test. The plain meaning is that of numbers, `bitAt` and `ones` of meaning's Rules/Words; no user calls this crate,
-// and each call's contract is its theorem. What and, or, xor, complement and the shifts do to bit j is in specs/Bit.
+// Words bit by bit, for the crates above: a power of two, the all-ones word, one bit, the low bits, two parts joined,
+// and the width test. The plain meaning is that of numbers, `bitAt` and `ones` of meaning's Rules/Words; no user
+// calls this crate, and each call's contract is its theorem. What and, or, xor, complement and the shifts do to bit j
+// is in specs/Bit.
 ghost use mathlib.Core.Path.{_≡_};
 ghost use Prim.Native.Nat.{_+_, _*_, _%_, _^_, _<_, _≤_};
 ghost use Rattle.meaning.specs.Rules.Words.{bitAt, ones, wordFits};
@@ -40,7 +41,8 @@ pub fn low_bits(word: u64, place: u64) -> u64
     word & (power_of_two(place) - 1)
 }
 
-// Inner: `high` from bit `place` on, and `low` below it. No bit of `high` may be lost, so the caller shows that it has room.
+// Inner: `high` from bit `place` on, and `low` below it. No bit of `high` may be lost, so the caller shows that it
+// has room.
 pub fn join(high: u64, place: u64, low: u64) -> u64
     requires { ⌜ (place < 64) × (high * 2 ^ place < 2 ^ 64) × (low < 2 ^ place) ⌝ }
     ensures { λ r. ⌜ r ≡ high * 2 ^ place + low ⌝ }

@@ -31,6 +31,13 @@ refusedWith r = record { refusal = r; answer = blank }
 abbrev pub restRow : List ℕ → List ℕ → List ℕ → ℕ → Refusal
 restRow ns ps bytes out = sound ns ps then assigned bytes then fitsPairs ns out
 
+-- what they leave to be answered and written
+abbrev pub restAnswer : List ℕ → List ℕ → List ℕ → List ℕ → Evaluation
+restAnswer ns ps bytes out = evaluation (restRow ns ps bytes (length out)) ns ps bytes
+
+abbrev pub restOutput : List ℕ → List ℕ → List ℕ → List ℕ → List ℕ
+restOutput ns ps bytes out = outputAfter (isDone (restRow ns ps bytes (length out))) (pairs ns ps bytes) out
+
 module _ (ns ps bytes : List ℕ) where
   -- ---- what an evaluation answers
   pub evaluation-refused : (r : Refusal) → r .number ≢ 0 → refusedWith r ≡ evaluation r ns ps bytes

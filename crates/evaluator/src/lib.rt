@@ -1,7 +1,7 @@
-// The evaluator (document 01, "Answers of a node", "Order"; 000, `eval`). The plain meaning is meaning's Rules/Calls, `evaluate`: the
-// answer, the work space and the output of a call, for any words at all, and that equation is the contract of `eval`, which is
-// what a user calls. The work is done by `verifier::sound` (numbers 3 to 8) and `pass::pass`; here stand number 12
-// (`assignment`), the output (`output`) and the order.
+// The evaluator (document 01, "Answers of a node", "Order"; 000, `eval`). The plain meaning is meaning's Rules/Calls,
+// `evaluate`: the answer, the work space and the output of a call, for any words at all. A user calls `eval`, whose
+// contract is that equation. The work is done by `verifier::sound` (numbers 3 to 8) and `pass::pass`; here stand
+// number 12 (`assignment`), the output (`output`) and the order of the refusals.
 mod assignment;
 mod output;
 
@@ -27,16 +27,13 @@ ghost use Prim.Native.Nat.{_*_, _≤_};
 ghost use lib.ListN.{length};
 ghost use Rattle.meaning.specs.Rules.Limits.{mostNodes, workPerNode};
 ghost use Rattle.meaning.specs.Rules.Trees.{nodeCount};
-ghost use Rattle.meaning.specs.Rules.Refusals.{isDone};
-ghost use Rattle.meaning.specs.Rules.Lent.{outputAfter};
-ghost use Rattle.meaning.specs.Rules.Pairs.{pairs};
 ghost use Rattle.meaning.specs.Rules.Calls as calls;
 ghost use Rattle.verifier.specs.Left.{soundWork};
-ghost use Rattle.evaluator.specs.Outcome.{restRow, refusedWith};
+ghost use Rattle.evaluator.specs.Outcome.{refusedWith, restRow, restAnswer, restOutput};
 
-// Numbers 1, 2, 10, 3 to 8, 12 and 19, in that order, for any input; then the root's answer, and in `out` a pair of state and
-// value for each node. A refusal leaves the output as it was; the work space is untouched after 1, 2 and 10, and else all
-// zeros.
+// Numbers 1, 2, 10, 3 to 8, 12 and 19, in that order, for any input; then the root's answer, and in `out` a pair of
+// state and value for each node. A refusal leaves the output as it was; the work space is untouched after 1, 2 and
+// 10, and else all zeros.
 pub fn eval(
     nodes: &[u32],
     pool: &[u32],
@@ -75,8 +72,8 @@ fn evaluated(
 ) -> Evaluation
     requires { ⌜ nodeCount (now nodes) ≤ mostNodes ⌝ }
     requires { ⌜ workPerNode * nodeCount (now nodes) ≤ length (now work) ⌝ }
-    ensures { λ r. ⌜ r ≡ calls.evaluation (restRow (now (nodes .entry)) (now (pool .entry)) (now (bytes .entry)) (length (now (out .entry)))) (now (nodes .entry)) (now (pool .entry)) (now (bytes .entry)) ⌝ }
-    ensures { λ _. ⌜ now (out .exit) ≡ outputAfter (isDone (restRow (now (nodes .entry)) (now (pool .entry)) (now (bytes .entry)) (length (now (out .entry))))) (pairs (now (nodes .entry)) (now (pool .entry)) (now (bytes .entry))) (now (out .entry)) ⌝ }
+    ensures { λ r. ⌜ r ≡ restAnswer (now (nodes .entry)) (now (pool .entry)) (now (bytes .entry)) (now (out .entry)) ⌝ }
+    ensures { λ _. ⌜ now (out .exit) ≡ restOutput (now (nodes .entry)) (now (pool .entry)) (now (bytes .entry)) (now (out .entry)) ⌝ }
 {
     let refusal = rest_refusal(nodes, pool, bytes, work, out.len());
     if refusal.number != DONE {

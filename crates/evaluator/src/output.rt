@@ -1,5 +1,5 @@
-// The output of an evaluation (document 01: "the evaluator writes state and value into lent u64 pairs"; "output past the answer is
-// unchanged").
+// The output of an evaluation (document 01: "the evaluator writes state and value into lent u64 pairs"; "output past the
+// answer is unchanged").
 use columns::STATE;
 use columns::VALUE;
 use columns::get;

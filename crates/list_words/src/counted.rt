@@ -1,5 +1,5 @@
-// A text that is one list with its two counts: how many node words, the node words, how many pool entries, the pool entries.
-// This is how a user writes a list down for a program. The plain meaning is specs/Counted.antt.
+// A text that is one list with its two counts: how many node words, the node words, how many pool entries, the pool
+// entries. This is how a user writes a list down for a program. The plain meaning is specs/Counted.antt.
 use super::Entries;
 use super::entry::Entry;
 use super::entry::next_entry;
@@ -10,8 +10,8 @@ ghost use mathlib.Core.Path.{_≡_};
 ghost use lib.ListN.{length};
 ghost use Rattle.list_words.specs.Counted as counted;
 
-// The whole text as a list, at the start of what was lent for it; the offset of what is no word of 32 bits; the offset behind
-// the list, where words follow it; or a count above the places that were lent.
+// The whole text as a list, at the start of what was lent for it; the offset of what is no word of 32 bits; the
+// offset behind the list, where words follow it; or a count above the places that were lent.
 pub enum ListRead {
     Whole { words: usize, entries: usize },
     Bad(usize),
@@ -26,8 +26,8 @@ pub(crate) enum Part {
     TooMany,
 }
 
-// Any counts are taken that there are places for: whether the node words are a multiple of three is for number 1 to say. What
-// is lent is scratch where the answer is not Whole.
+// Any counts are taken that there are places for: whether the node words are a multiple of three is for number 1 to
+// say. What is lent is scratch where the answer is not Whole.
 pub fn read_list(text: &[u8], nodes: &mut [u32], pool: &mut [u32]) -> ListRead
     ensures { λ r. ⌜ r ≡ counted.readList (now (text .entry)) (length (now (nodes .entry))) (length (now (pool .entry))) ⌝ }
     ensures { λ _. ⌜ now (nodes .exit) ≡ counted.filledPart (now (text .entry)) 0 (now (nodes .entry)) ⌝ }

@@ -1,7 +1,7 @@
-// A node list from decimal words (document 01, "The node list": "Two lent slices of u32"): what the programs that take a list
-// read it with. A program says how many words it takes by the length of what it lends; so a word is owed, and a text that
-// ends before it is bad at its end. The plain meaning is specs/Entries.antt. Where the counts stand in the text, `read_list`
-// reads both (specs/Counted.antt).
+// A node list from decimal words (document 01, "The node list": "Two lent slices of u32"): what the programs that
+// take a list read it with. A program says how many words it takes by the length of what it lends; so a word is owed,
+// and a text that ends before it is bad at its end. The plain meaning is specs/Entries.antt. Where the counts stand
+// in the text, `read_list` reads both (specs/Counted.antt).
 mod counted;
 mod entry;
 mod room;
@@ -40,7 +40,8 @@ pub fn next_list(text: &[u8], at: usize, nodes: &mut [u32], pool: &mut [u32]) ->
     }
 }
 
-// Words one behind the other. Where the answer is Bad the places hold the words read so far, and behind those what was there.
+// Words one behind the other. Where the answer is Bad the places hold the words read so far, and behind those what
+// was there.
 pub fn next_entries(text: &[u8], at: usize, places: &mut [u32]) -> Entries
     ensures { λ r. ⌜ r ≡ entries.nextEntries (now (text .entry)) at (length (now (places .entry))) ⌝ }
     ensures { λ _. ⌜ now (places .exit) ≡ entries.filled (now (text .entry)) at (now (places .entry)) ⌝ }

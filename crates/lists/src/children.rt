@@ -10,8 +10,8 @@ ghost use Rattle.meaning.specs.Rules.Kinds.{kindOf, mayHave};
 ghost use Rattle.meaning.specs.Rules.Trees.{nodeCount, childrenAt};
 ghost use Rattle.lists.specs.Laid.{PartFits};
 
-// "The number of children is decided by the kind": may a node of this kind have `count` of them? A Program's count word is
-// the high half of its value, and any; for a kind above 16 no count is right.
+// "The number of children is decided by the kind": may a node of this kind have `count` of them? A Program's count
+// word is the high half of its value, and any; for a kind above 16 no count is right.
 pub fn may_have(kind: u32, count: usize) -> bool
     ensures { λ r. ⌜ r ≡ mayHave (kindOf kind) count ⌝ }
 {
@@ -34,8 +34,8 @@ pub fn may_have(kind: u32, count: usize) -> bool
     }
 }
 
-// Inner: node i's children, "handed on as that part of the pool". Kinds 0 to 3 have none, whatever their words say; of any
-// other the caller shows that the part lies in the pool.
+// Inner: node i's children, "handed on as that part of the pool". Kinds 0 to 3 have none, whatever their words say;
+// of any other the caller shows that the part lies in the pool.
 pub fn children_of<'a>(nodes: &[u32], pool: &'a [u32], i: usize) -> &'a [u32]
     requires { ⌜ i < nodeCount (now nodes) ⌝ }
     requires { ⌜ PartFits (now nodes) (now pool) i ⌝ }

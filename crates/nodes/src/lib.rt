@@ -1,6 +1,6 @@
-// A node's words (document 01, "The node list": "nodes, three words each (kind, first, count)"). The plain meaning is that of
-// meaning's Rules/Trees (`nodeCount`, `kindAt`, `firstAt`, `countAt`, `datumAt`), and each accessor's contract is an equation with
-// it. No other file says where in the list a word stands.
+// A node's words (document 01, "The node list": "nodes, three words each (kind, first, count)"). The plain meaning is
+// that of meaning's Rules/Trees (`nodeCount`, `kindAt`, `firstAt`, `countAt`, `datumAt`), and each accessor's
+// contract is an equation with it. No other file says where in the list a word stands.
 use meaning::kinds::PROGRAM;
 use meaning::kinds::VARIABLE;
 use meaning::limits::WORDS_PER_NODE;

@@ -1,9 +1,10 @@
-// The operators on answers (document 01, "Answers of a node"; 000, `eval_rec`): one small function for each. An answer is a
-// width with a value, or a failure; "an operand's answer is taken apart once: a value goes on, anything else leaves with its
-// failure". The plain meaning of each is the definition of the same name in meaning's Rules/Answers (`andOf`, `norOf`, ..), and
-// its contract is an equation with it. Both evaluators, the plain one and the pass, call these and nothing else for a node's
-// own answer; a Lut's row is gathered in their loops, so that a failing operand ends it at once. That every operator keeps
-// answers within their width is in specs/Widths; how a loop over operands goes, in specs/Folds.
+// The operators on answers (document 01, "Answers of a node"; 000, `eval_rec`): one small function for each. An
+// answer is a width with a value, or a failure; "an operand's answer is taken apart once: a value goes on, anything
+// else leaves with its failure". The plain meaning of each is the definition of the same name in meaning's
+// Rules/Answers (`andOf`, `norOf`, ..), and its contract is an equation with it. Both evaluators, the plain one and
+// the pass, call these and nothing else for a node's own answer; a Lut's row is gathered in their loops, so that a
+// failing operand ends it at once. That every operator keeps answers within their width is in specs/Widths; how a
+// loop over operands goes, in specs/Folds.
 use bits::bit_at;
 use bits::ones_of;
 use meaning::Answer;
@@ -21,7 +22,8 @@ ghost use Rattle.operators.specs.Widths.{Held, Alike};
 // "Assignment bytes: 0, 1, 2 undriven"
 pub const UNDRIVEN_BYTE: u8 = 2;
 
-// "And: two values give the bitwise and. One failure: if the other is all zeros, zeros; else that failure. Two: the first."
+// "And: two values give the bitwise and. One failure: if the other is all zeros, zeros; else that failure. Two: the
+// first."
 pub fn and_of(x: Answer, y: Answer) -> Answer
     ensures { λ r. ⌜ r ≡ andOf x y ⌝ }
 {
@@ -56,8 +58,8 @@ fn zeros_or(width: u32, value: u64, failure: Failure) -> Answer
     Answer::Failed(failure)
 }
 
-// Inner: "Nor is the complement of or, and all ones absorb to zeros": the And of the complements (`not-or` of bits), so what
-// all zeros are to And, all ones are here. Both operands are of one width.
+// Inner: "Nor is the complement of or, and all ones absorb to zeros": the And of the complements (`not-or` of bits),
+// so what all zeros are to And, all ones are here. Both operands are of one width.
 pub fn nor_of(x: Answer, y: Answer) -> Answer
     requires { ⌜ Alike x y ⌝ }
     ensures { λ r. ⌜ r ≡ norOf x y ⌝ }
@@ -97,7 +99,8 @@ pub fn xor_of(x: Answer, y: Answer) -> Answer
     }
 }
 
-// The child that a Mux answers as, by its selector's value: "s = 1 answers as a, s = 0 as b". The other is never asked for.
+// The child that a Mux answers as, by its selector's value: "s = 1 answers as a, s = 0 as b". The other is never
+// asked for.
 pub fn arm_of(selector: u64) -> usize
     ensures { λ r. ⌜ r ≡ cond (eqb selector 0) 2 1 ⌝ }
 {
@@ -107,7 +110,8 @@ pub fn arm_of(selector: u64) -> usize
     1
 }
 
-// Inner: a Lut's answer, the bit of its program at the row that its operands' bits are. How wide the row is does not matter.
+// Inner: a Lut's answer, the bit of its program at the row that its operands' bits are. How wide the row is does not
+// matter.
 pub fn row_bit(program: u64, row: u64) -> Answer
     requires { ⌜ row < widestBus ⌝ }
     ensures { λ r. ⌜ r ≡ rowBit program (Value 0 row) ⌝ }

@@ -1,9 +1,10 @@
-// The pass (document 01, "Answers of a node": "Node by node, the evaluator writes state and value"): one walk over the nodes in
-// number order, each node's pair from its children's rows, so that no path is walked twice. The plain meaning is meaning's
-// Rules/Pairs, `stateAt` and `valueAt`; a caller has a list accepted and its marks and shapes in the work space (rows,
-// specs/Rows, `Prepared`), as `verifier::sound` leaves them, and calls `pass`, for each assignment anew. Its contract is an equation for the
-// whole work space (specs/Written, `withPairs`): columns STATE and VALUE of the list's rows, and nothing else, are written. That
-// the answers are those of the plain evaluator is specs/Same.
+// The pass (document 01, "Answers of a node": "Node by node, the evaluator writes state and value"): one walk over
+// the nodes in number order, each node's pair from its children's rows, so that no path is walked twice. The plain
+// meaning is meaning's Rules/Pairs, `stateAt` and `valueAt`; a caller has a list accepted and its marks and shapes in
+// the work space (rows, specs/Rows, `Prepared`), as `verifier::sound` leaves them, and calls `pass`, for each
+// assignment anew. Its contract is an equation for the whole work space (specs/Written, `withPairs`): columns STATE
+// and VALUE of the list's rows, and nothing else, are written. That the answers are those of the plain evaluator is
+// specs/Same.
 use answer_words::words_of;
 use columns::MARK;
 use columns::STATE;

@@ -1,8 +1,8 @@
-// The plain evaluator (document 01: "A plain evaluator that descends from a node to its lower-numbered children is kept beside
-// it and proved equal"; 000, `eval_rec`). The plain meaning is meaning's Rules/Answers, `answer` of the tree at a node, and the
-// contract of `eval_rec` is that equation. The node number falls at each call. It walks a shared graph as a tree, so it is kept
-// as the reference and is no entry point: a user calls `evaluator::eval`, whose pass (the crate `pass`) writes the same answers
-// (specs/Same there).
+// The plain evaluator (document 01: "A plain evaluator that descends from a node to its lower-numbered children is
+// kept beside it and proved equal"; 000, `eval_rec`). The plain meaning is meaning's Rules/Answers, `answer` of the
+// tree at a node, and the contract of `eval_rec` is that equation. The node number falls at each call. It walks a
+// shared graph as a tree, so it is kept as the reference and is no entry point: a user calls `evaluator::eval`, whose
+// pass (the crate `pass`) writes the same answers (specs/Same there).
 use accepted::leaf_of;
 use accepted::operand;
 use accepted::program_of;

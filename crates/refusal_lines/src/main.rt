@@ -1,5 +1,5 @@
-// Writes the line of every refusal, at node 9: a test of `refusal_text`, by the recorded output. Document 01's table ends with
-// 19; 15 to 18 and 20 are not in it.
+// Writes the line of every refusal, at node 9: a test of `refusal_text`, by the recorded output. Document 01's table
+// ends with 19; 15 to 18 and 20 are not in it.
 use libc::STDOUT_FILENO;
 use meaning::Refusal;
 use refusal_text::write_refusal;

@@ -1,6 +1,6 @@
-// The order of refusals (document 01, "Numbers a call answers with"): a test that names no node, and of two tests the first that
-// refuses. The plain meaning is meaning's Rules/Refusals, `require` and `then`. A call that asks test after test joins their answers
-// by `first_refusal`, in the document's order.
+// The order of refusals (document 01, "Numbers a call answers with"): a test that names no node, and of two tests the
+// first that refuses. The plain meaning is meaning's Rules/Refusals, `require` and `then`. A call that asks test
+// after test joins their answers by `first_refusal`, in the document's order.
 use meaning::Refusal;
 use meaning::numbers::DONE;
 ghost use mathlib.Core.Path.{_≡_};

@@ -1,5 +1,5 @@
-// Runs a call on one list so many times: what the scripts of bench/ time. Standard input is decimal words: which call, how many
-// times, how many node words, how many pool entries, and then those words, each below 2^32.
+// Runs a call on one list so many times: what the scripts of bench/ time. Standard input is decimal words: which
+// call, how many times, how many node words, how many pool entries, and then those words, each below 2^32.
 mod calls;
 
 use calls::Tally;
@@ -24,8 +24,6 @@ use replay_report::too_long;
 ghost use Prim.Native.Nat.{_≤_};
 ghost use lib.ListN.{length};
 ghost use Rattle.list_words.specs.Room.{nodeRoom, poolRoom, workRoom};
-
-// ---- the list and its work space
 
 // "16 u64 words per node plus 2 per pool entry" (document 01, number 10)
 fn asked(words: usize, entries: usize) -> usize
@@ -113,8 +111,6 @@ fn start(text: &[u8]) {
     }
 }
 
-// ---- what is printed
-
 fn told(given: Tally, repeats: u64) {
     io::write_all(STDOUT_FILENO, b"number ");
     io::print_decimal(STDOUT_FILENO, given.refusal.number as u64);
@@ -134,8 +130,8 @@ fn usage() {
     );
 }
 
-// Room for the largest list, each of its words with ten digits and a blank. A call, so that a proof has an array of this length
-// before it and not so many zeros.
+// Room for the largest list, each of its words with ten digits and a blank. A call, so that a proof has an array of
+// this length before it and not so many zeros.
 fn space() -> [u8; 524288] {
     [0; 524288]
 }

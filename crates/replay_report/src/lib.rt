@@ -1,5 +1,5 @@
-// What a program that reads cases from standard input says: how many there were and how many differ, or what is wrong with its
-// input. No contract can say what is written; each replay's output is recorded.
+// What a program that reads cases from standard input says: how many there were and how many differ, or what is wrong
+// with its input. No contract can say what is written; each replay's output is recorded.
 use libc::STDOUT_FILENO;
 
 pub enum Outcome {

@@ -1,6 +1,6 @@
-// A node's row of the work space as an answer (document 01, "Answers of a node": "0 and the value (its width is the node's shape),
-// 1 to 4 for a failure and 0"). The plain meaning is specs/Rows, `fromRow`; there too stand what the rows hold before the pass
-// (`Prepared`) and while it goes (`Filled`).
+// A node's row of the work space as an answer (document 01, "Answers of a node": "0 and the value (its width is the
+// node's shape), 1 to 4 for a failure and 0"). The plain meaning is specs/Rows, `fromRow`; there too stand what the
+// rows hold before the pass (`Prepared`) and while it goes (`Filled`).
 use columns::SHAPE;
 use columns::STATE;
 use columns::VALUE;

@@ -67,8 +67,8 @@ fn root_program(nodes: &[u32], i: usize) -> bool
     kind_of(nodes, i) == PROGRAM
 }
 
-// Does a node of that kind fit over those children? "A misplaced child is its parent's fault". A Lut's first child, and an
-// Arg's, verification has asked to be a Program.
+// Does a node of that kind fit over those children? "A misplaced child is its parent's fault". A Lut's first child,
+// and an Arg's, verification has asked to be a Program.
 fn fits(kind: u32, children: &[u32], base: usize, work: &[u64]) -> bool
     requires { ⌜ kind ≤ cycleWord ⌝ }
     requires { ⌜ Rows (now work) base (now children) ⌝ }

@@ -1,7 +1,8 @@
-// Shapes (document 01, "Evaluable"): a bit, a bus of so many, or a Program; and number 8 of one node. The plain meaning is
-// meaning's Rules/Evaluable: `shape`, `fits` and `shapeFault`, over trees. A caller uses `step::write_shapes`, one pass over
-// the nodes in number order that leaves every node's shape in the work space, and then `fit::shape_fault`, which looks
-// only at a node's mark and its children's shapes; which node is the lowest faulty one is the verifier's to find.
+// Shapes (document 01, "Evaluable"): a bit, a bus of so many, or a Program; and number 8 of one node. The plain
+// meaning is meaning's Rules/Evaluable: `shape`, `fits` and `shapeFault`, over trees. A caller uses
+// `step::write_shapes`, one pass over the nodes in number order that leaves every node's shape in the work space, and
+// then `fit::shape_fault`, which looks only at a node's mark and its children's shapes; which node is the lowest
+// faulty one is the verifier's to find.
 pub mod fit;
 pub mod step;
 pub mod width;

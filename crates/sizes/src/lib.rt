@@ -1,6 +1,6 @@
-// Numbers 1, 2 and 10: the sizes of what is lent (document 01, "Numbers a call answers with"). The plain meaning is that of
-// meaning's Rules/Layout. A call that is brought one list asks `lent`; one that is brought more asks `sizes` of each, then
-// `room` of what `work_for` sums to.
+// Numbers 1, 2 and 10: the sizes of what is lent (document 01, "Numbers a call answers with"). The plain meaning is
+// that of meaning's Rules/Layout. A call that is brought one list asks `lent`; one that is brought more asks `sizes`
+// of each, then `room` of what `work_for` sums to.
 use meaning::Refusal;
 use meaning::limits::MOST_NODES;
 use meaning::limits::MOST_POOL;

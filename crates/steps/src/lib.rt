@@ -1,6 +1,6 @@
-// A node's answer from its children's rows, as the pass takes it: the arms of the plain evaluator, with a row in place of each
-// descent. The plain meaning is meaning's Rules/Answers, `answer` of the tree at the node; the pass calls `answer_of` once for
-// each node, in number order, and its contract is that equation.
+// A node's answer from its children's rows, as the pass takes it: the arms of the plain evaluator, with a row in
+// place of each descent. The plain meaning is meaning's Rules/Answers, `answer` of the tree at the node; the pass
+// calls `answer_of` once for each node, in number order, and its contract is that equation.
 use accepted::leaf_of;
 use accepted::operand;
 use accepted::program_of;

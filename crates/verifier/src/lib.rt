@@ -1,8 +1,8 @@
-// The verifier (document 01, "Verification", "Evaluable", "Order"; 000, `verify_expr`). The plain meaning is meaning's
-// Rules/Calls, `verify`, over Rules/Layout, Verification and Evaluable; that yes or no equals the Rust's walk path by path is
-// Claims/PathByPath. A user calls `verify_expr`, with any words at all. `sound` is what the calls that need a value share: the
-// whole row of numbers 3 to 8 for one list, which leaves marks and shapes in its columns (specs/Left). Every pass looks at
-// each node and each pool entry a bounded number of times.
+// The verifier (document 01, "Verification", "Evaluable", "Order"; 000, `verify_expr`). The plain meaning is
+// meaning's Rules/Calls, `verify`, over Rules/Layout, Verification and Evaluable; that yes or no equals the Rust's
+// walk path by path is Claims/PathByPath. A user calls `verify_expr`, with any words at all. `sound` is what the
+// calls that need a value share: the whole row of numbers 3 to 8 for one list, which leaves marks and shapes in its
+// columns (specs/Left). Every pass looks at each node and each pool entry a bounded number of times.
 mod search;
 
 use columns::clear;
@@ -41,8 +41,8 @@ pub fn verify_expr(nodes: &[u32], pool: &[u32], work: &mut [u64]) -> Refusal
     refusal
 }
 
-// Inner: "then list by list 3, 4, 5 .., 6, 7, 8", for a list past numbers 1, 2 and 10 whose first row is `base`. A list that
-// passes has its marks and shapes in the work space.
+// Inner: "then list by list 3, 4, 5 .., 6, 7, 8", for a list past numbers 1, 2 and 10 whose first row is `base`. A
+// list that passes has its marks and shapes in the work space.
 pub fn sound(nodes: &[u32], pool: &[u32], base: usize, work: &mut [u64]) -> Refusal
     requires { ⌜ nodeCount (now nodes) ≤ mostNodes ⌝ }
     requires { ⌜ workPerNode * (base + nodeCount (now nodes)) ≤ length (now work) ⌝ }
