@@ -1,21 +1,11 @@
-// A node list from decimal words (document 01, "The node list": "Two lent slices of u32"): what the programs that
-// take a list read it with. A program says how many words it takes by the length of what it lends; so a word is owed,
-// and a text that ends before it is bad at its end. The plain meaning is specs/Entries.antt. Where the counts stand
-// in the text, `read_list` reads both (specs/Counted.antt).
-mod counted;
+// A node list from decimal words (document 01, "The node list": "Two lent slices of u32"): what the programs that take
+// a list read it with. A program says how many words it takes by the length of what it lends; so a word is owed, and a
+// text that ends before it is bad at its end. The plain meaning is specs/Entries.antt. A text with its counts in it is
+// read by `list_texts`.
 mod entry;
-mod room;
 
-pub use counted::ListRead;
-pub use counted::read_list;
 pub use entry::Entry;
 pub use entry::next_entry;
-pub use room::NODE_ROOM;
-pub use room::POOL_ROOM;
-pub use room::WORK_ROOM;
-pub use room::node_room;
-pub use room::pool_room;
-pub use room::work_room;
 ghost use mathlib.Core.Path.{_≡_};
 ghost use lib.ListN.{length};
 ghost use Rattle.list_words.specs.Entries as entries;

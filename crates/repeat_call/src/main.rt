@@ -9,13 +9,13 @@ use decimals::Word;
 use decimals::next_row;
 use decimals::next_word;
 use libc::STDOUT_FILENO;
+use list_room::NODE_ROOM;
+use list_room::POOL_ROOM;
+use list_room::node_room;
+use list_room::pool_room;
+use list_room::work_room;
 use list_words::Entries;
-use list_words::NODE_ROOM;
-use list_words::POOL_ROOM;
 use list_words::next_list;
-use list_words::node_room;
-use list_words::pool_room;
-use list_words::work_room;
 use meaning::limits::WORDS_PER_NODE;
 use meaning::limits::WORK_PER_NODE;
 use meaning::limits::WORK_PER_POOL;
@@ -23,7 +23,7 @@ use replay_report::malformed;
 use replay_report::too_long;
 ghost use Prim.Native.Nat.{_≤_};
 ghost use lib.ListN.{length};
-ghost use Rattle.list_words.specs.Room.{nodeRoom, poolRoom, workRoom};
+ghost use Rattle.list_room.specs.Room.{nodeRoom, poolRoom, workRoom};
 
 // "16 u64 words per node plus 2 per pool entry" (document 01, number 10)
 fn asked(words: usize, entries: usize) -> usize

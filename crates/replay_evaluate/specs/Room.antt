@@ -3,7 +3,7 @@ use Prim.Native.Nat.{ℕ, _≤_}
 use mathlib.Core.Bool.{Bool, true, false, not}
 use mathlib.Core.Path.{_≡_, subst}
 use borrow.Author.Tests.{not-false}
-use Rattle.list_words.specs.Room.{nodeRoom, poolRoom, workRoom}
+use Rattle.list_room.specs.Room.{nodeRoom, poolRoom, workRoom}
 use Rattle.replay_evaluate.specs.declared.cases.Sizes.{Sizes}
 
 abbrev pub byteRoom : ℕ

@@ -4,7 +4,7 @@ use mathlib.Core.Path.{_≡_, sym, subst}
 use mathlib.Core.List.{List}
 use lib.ListN.{length}
 use Rattle.decimals.specs.Claims.{Ahead}
-use Rattle.list_words.specs.Room.{nodeRoom, poolRoom, workRoom}
+use Rattle.list_room.specs.Room.{nodeRoom, poolRoom, workRoom}
 use Rattle.replay_verify.specs.declared.cases.Case.{Case}
 use Rattle.replay_verify.specs.declared.cases.Header.{Header}
 use Rattle.replay_verify.specs.declared.cases.Header.the-variants.{Given, End, Bad}

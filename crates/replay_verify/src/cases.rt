@@ -5,9 +5,9 @@
 // Behind the row stand the node words and then the pool entries, each below 2^32.
 use decimals::Row;
 use decimals::next_row;
-use list_words::NODE_ROOM;
-use list_words::POOL_ROOM;
-use list_words::WORK_ROOM;
+use list_room::NODE_ROOM;
+use list_room::POOL_ROOM;
+use list_room::WORK_ROOM;
 ghost use Rattle.replay_verify.specs.Headers.{Usable, UsableRow};
 
 pub(crate) struct Case {

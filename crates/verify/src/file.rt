@@ -4,9 +4,9 @@ use super::list;
 use super::room::NODE_ROOM;
 use super::room::POOL_ROOM;
 use libc::STDERR_FILENO;
-use list_words::ListRead;
-use list_words::read_list;
-ghost use Rattle.list_words.specs.Counted.{Starts};
+use list_texts::ListRead;
+use list_texts::read_list;
+ghost use Rattle.list_texts.specs.Counted.{Starts};
 ghost use Rattle.verify.specs.Room.{Taken};
 
 // ---- what is written

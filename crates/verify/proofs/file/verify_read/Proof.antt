@@ -1,6 +1,6 @@
 -- `verify_read` lends parts that are there, since the counts read are within what was lent for them.
 use mathlib.Core.Path.{subst}
-use Rattle.list_words.specs.Counted.{Fits}
+use Rattle.list_texts.specs.Counted.{Fits}
 use native.Mathlib.Omega.{arith}
 use borrow.Author.Needs.{needs}
 use Rattle.verify.proofs.file.verify_read.Statement.{statement}

@@ -1,0 +1,2 @@
+-- how much room there is
+pub mod Room

@@ -1,0 +1,31 @@
+// Room for a list that a program reads. Past the limits of document 01 ("At most 4,096 nodes and 16,384 pool
+// entries"), so that a list over them can be brought; and room for the work space that the largest such list asks
+// ("16 u64 words per node plus 2 per pool entry").
+ghost use mathlib.Core.Path.{_≡_};
+ghost use Rattle.list_room.specs.Room.{zeros};
+
+pub const NODE_ROOM: usize = 12300;
+
+pub const POOL_ROOM: usize = 16400;
+
+pub const WORK_ROOM: usize = 98400;
+
+// Each is a call, so that a proof has an array of that length before it and not so many zeros.
+
+pub fn node_room() -> [u32; NODE_ROOM]
+    ensures { λ r. ⌜ r ≡ zeros 12300 ⌝ }
+{
+    [0; NODE_ROOM]
+}
+
+pub fn pool_room() -> [u32; POOL_ROOM]
+    ensures { λ r. ⌜ r ≡ zeros 16400 ⌝ }
+{
+    [0; POOL_ROOM]
+}
+
+pub fn work_room() -> [u64; WORK_ROOM]
+    ensures { λ r. ⌜ r ≡ zeros 98400 ⌝ }
+{
+    [0; WORK_ROOM]
+}
