@@ -17,7 +17,7 @@ use Rattle.columns.specs.Columns.{markColumn, shapeColumn, withColumn}
 use Rattle.columns.specs.ColumnLaws.{with-none, with-length, with-column, with-other-column}
 use Rattle.lists.specs.Laid.{Laid}
 use Rattle.shapes.specs.Shapes.{shapeAt}
-use Rattle.verifier.specs.Search.{Marked, Shaped}
+use Rattle.search.specs.Search.{Marked, Shaped}
 
 module _ (ns ps : List ℕ) (base : ℕ) where
   -- column MARK of every node, column SHAPE of every node; all else as it was

@@ -3,8 +3,6 @@
 // walk path by path is Claims/PathByPath. A user calls `verify_expr`, with any words at all. `sound` is what the
 // calls that need a value share: the whole row of numbers 3 to 8 for one list, which leaves marks and shapes in its
 // columns (specs/Left). Every pass looks at each node and each pool entry a bounded number of times.
-mod search;
-
 use columns::clear;
 use marks::mark_reached;
 use meaning::Refusal;

@@ -13,14 +13,14 @@ use Rattle.meaning.specs.declared.Refusal.{Refusal}
 use Rattle.lists.specs.Laid.{Laid, layout-laid}
 use Rattle.verifier.specs.Outcome.{toSix, six-laid, evaluability-search, sound-stops, sound-empty, sound-goes}
 use Rattle.verifier.specs.Left.{withMarks, withShapes, verified-laid, sound-refused, sound-verified, empty-work, still-marked, shaped}
-use Rattle.verifier.specs.Search.{Marked, Shaped}
+use Rattle.search.specs.Search.{Marked, Shaped}
 use Rattle.verifier.proofs.sound.Statement.{statement}
 use Rattle.verifier.proofs.sound.Tie as tie
 use Rattle.verifier.proofs.sound.Reads as reads
 use Rattle.verifier.proofs.sound.Lts as lts
 use Rattle.nodes.proofs.node_count.Reads as node-count-reads
 use Rattle.shapes.proofs.step.write_shapes.Reads as write-shapes-reads
-use Rattle.verifier.proofs.search.lowest_fault.Reads as lowest-fault-reads
+use Rattle.search.proofs.lowest_fault.Reads as lowest-fault-reads
 use Rattle.verifier.proofs.verified.Reads as verified-reads
 
 -- src/lib.rt:58:9

@@ -12,13 +12,13 @@ use Rattle.meaning.specs.declared.Refusal.{Refusal}
 use Rattle.lists.specs.Laid.{Laid, layout-laid}
 use Rattle.verifier.specs.Outcome.{layout-search, verification-search}
 use Rattle.verifier.specs.Left.{verified-refused, verified-laid, marked}
-use Rattle.verifier.specs.Search.{Marked}
+use Rattle.search.specs.Search.{Marked}
 use Rattle.verifier.proofs.verified.Statement.{statement}
 use Rattle.verifier.proofs.verified.Tie as tie
 use Rattle.verifier.proofs.verified.Reads as reads
 use Rattle.verifier.proofs.verified.Lts as lts
 use Rattle.marks.proofs.mark_reached.Reads as mark-reached-reads
-use Rattle.verifier.proofs.search.lowest_fault.Reads as lowest-fault-reads
+use Rattle.search.proofs.lowest_fault.Reads as lowest-fault-reads
 
 -- src/lib.rt:79:9
 lowest-fault-requires : tie.Need-lowest-fault-requires

@@ -4,12 +4,12 @@ use Prim.Native.Nat.{ℕ, _<_}
 use borrow.Author.Needs.{needs}
 use native.Mathlib.Omega.{arith}
 use Rattle.meaning.specs.Rules.Trees.{nodeCount}
-use Rattle.verifier.specs.declared.search.Test.{Test}
-use Rattle.verifier.specs.Search.{faultOf, Marked, Shaped, Ready}
-use Rattle.verifier.proofs.search.fault_at.Statement.{statement}
-use Rattle.verifier.proofs.search.fault_at.Tie as tie
-use Rattle.verifier.proofs.search.fault_at.Reads as reads
-use Rattle.verifier.proofs.search.fault_at.Lts as lts
+use Rattle.search.specs.declared.Test.{Test}
+use Rattle.search.specs.Search.{faultOf, Marked, Shaped, Ready}
+use Rattle.search.proofs.fault_at.Statement.{statement}
+use Rattle.search.proofs.fault_at.Tie as tie
+use Rattle.search.proofs.fault_at.Reads as reads
+use Rattle.search.proofs.fault_at.Lts as lts
 use Rattle.columns.proofs.get.Reads as get-reads
 use Rattle.faults.proofs.verify_fault.Reads as verify-fault-reads
 use Rattle.lists.proofs.layout.layout_fault.Reads as layout-fault-reads

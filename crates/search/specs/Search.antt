@@ -17,8 +17,8 @@ use Rattle.meaning.specs.Laws.NumberLaws.{lowest-exactly, all-done, lowest-zero
 use Rattle.lists.specs.Laid.{Laid}
 use Rattle.columns.specs.Columns.{markColumn, shapeColumn, Column}
 use Rattle.shapes.specs.Shapes.{shapeAt}
-use Rattle.verifier.specs.declared.search.Test.{Test}
-use Rattle.verifier.specs.declared.search.Test.the-variants.{Layout, Verification, Evaluability}
+use Rattle.search.specs.declared.Test.{Test}
+use Rattle.search.specs.declared.Test.the-variants.{Layout, Verification, Evaluability}
 
 -- a node's fault in a test
 abbrev pub faultOf : Test → List ℕ → List ℕ → ℕ → ℕ

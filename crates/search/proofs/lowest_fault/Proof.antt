@@ -6,13 +6,13 @@ use borrow.Author.Needs.{needs}
 use native.Mathlib.Omega.{arith}
 use Rattle.meaning.specs.Rules.Refusals.{refuse}
 use Rattle.meaning.specs.Rules.Trees.{nodeCount}
-use Rattle.verifier.specs.Search.{faultOf, search-found, search-none}
-use Rattle.verifier.proofs.search.lowest_fault.Statement.{statement}
-use Rattle.verifier.proofs.search.lowest_fault.Tie as tie
-use Rattle.verifier.proofs.search.lowest_fault.Reads as reads
-use Rattle.verifier.proofs.search.lowest_fault.Lts as lts
+use Rattle.search.specs.Search.{faultOf, search-found, search-none}
+use Rattle.search.proofs.lowest_fault.Statement.{statement}
+use Rattle.search.proofs.lowest_fault.Tie as tie
+use Rattle.search.proofs.lowest_fault.Reads as reads
+use Rattle.search.proofs.lowest_fault.Lts as lts
 use Rattle.nodes.proofs.node_count.Reads as node-count-reads
-use Rattle.verifier.proofs.search.fault_at.Reads as fault-at-reads
+use Rattle.search.proofs.fault_at.Reads as fault-at-reads
 
 abbrev Inv-loop : tie.InvT-loop
 Inv-loop test nodes pool base work n i₀ i = (i ≤ n) × (n ≡ nodeCount nodes) × ((j : ℕ) → j < i → faultOf test nodes pool j ≡ 0)

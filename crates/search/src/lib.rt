@@ -1,4 +1,6 @@
-// "at the lowest faulty node": one search from node 0 on, for every test that is made node by node.
+// "at the lowest faulty node": one search from node 0 on, for every test that is made node by node (document 01,
+// "Order"). The plain meaning is meaning's Rules/Refusals, `atLowest`, of the faults of that test (specs/Search,
+// `faultOf`); the verifier calls `lowest_fault` with the test that is meant, since Rattle has no function values.
 use columns::MARK;
 use columns::get;
 use faults::verify_fault;
@@ -12,7 +14,7 @@ ghost use Prim.Native.Nat.{_<_, _≤_};
 ghost use Rattle.meaning.specs.Rules.Limits.{mostNodes};
 ghost use Rattle.meaning.specs.Rules.Trees.{nodeCount};
 ghost use Rattle.meaning.specs.Rules.Refusals.{atLowest};
-ghost use Rattle.verifier.specs.Search.{Ready, faultOf};
+ghost use Rattle.search.specs.Search.{Ready, faultOf};
 
 // The tests: numbers 3 to 5, number 6, number 8
 pub enum Test {
@@ -21,7 +23,7 @@ pub enum Test {
     Evaluability,
 }
 
-// The lowest node with a fault, and its number; done where there is none.
+// Inner: the lowest node with a fault, and its number; done where there is none.
 pub fn lowest_fault(test: Test, nodes: &[u32], pool: &[u32], base: usize, work: &[u64]) -> Refusal
     requires { ⌜ nodeCount (now nodes) ≤ mostNodes ⌝ }
     requires { ⌜ Ready test (now nodes) (now pool) base (now work) ⌝ }
