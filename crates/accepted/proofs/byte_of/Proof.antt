@@ -1,23 +1,19 @@
+-- `byte_of` meets its contract: inside the slice its byte, past it undriven.
 use Rattle.accepted.specs.Bytes.{given-inside}
 use lib.ListN.{List·getD-eq-default}
 use mathlib.Core.Path.{sym}
 use borrow.Author.Needs.{needs}
 use Rattle.accepted.proofs.byte_of.Statement.{statement}
 use Rattle.accepted.proofs.byte_of.Tie as tie
-use Rattle.accepted.proofs.byte_of.Reads as reads
-use Rattle.accepted.proofs.byte_of.Lts as lts
 
--- src/lib.rt:73:16
 shared-slice-read-result : tie.Need-shared-slice-read-result
 shared-slice-read-result c = search needs
 
--- src/lib.rt:73:9
 returns : tie.Need-returns
 returns c =
     let s = c .before .before in
     given-inside (s .args .bytes .now) (s .args .variable) (c .before .if1 .taken)
 
--- src/lib.rt:69:1
 returns-2 : tie.Need-returns-2
 returns-2 c = sym (List·getD-eq-default (c .before .args .bytes .now) 2 (c .if1 .left))
 

@@ -1,3 +1,4 @@
+-- `leaf_of` meets its contract: kind by kind; the default arm is a variable.
 use Rattle.meaning.specs.Rules.Assignments.{given}
 use Rattle.meaning.specs.Rules.Answers.{driven}
 use Rattle.meaning.specs.Rules.Trees.{kindAt, firstAt, datumAt}
@@ -9,30 +10,19 @@ use native.Mathlib.Omega.{arith}
 use mathlib.Core.Path.{_≡_, sym, ap, _∙_}
 use Rattle.accepted.proofs.leaf_of.Statement.{statement}
 use Rattle.accepted.proofs.leaf_of.Tie as tie
-use Rattle.accepted.proofs.leaf_of.Reads as reads
-use Rattle.accepted.proofs.leaf_of.Lts as lts
-use Rattle.accepted.proofs.byte_of.Reads as byte-of-reads
-use Rattle.nodes.proofs.first_of.Reads as first-of-reads
-use Rattle.nodes.proofs.kind_of.Reads as kind-of-reads
-use Rattle.operators.proofs.driven_by.Reads as driven-by-reads
 
--- src/lib.rt:57:9
 first-of-requires : tie.Need-first-of-requires
 first-of-requires c κs = search needs
 
--- src/lib.rt:58:11
 kind-of-requires : tie.Need-kind-of-requires
 kind-of-requires c κs = search needs
 
--- src/lib.rt:64:24
 byte-of-requires : tie.Need-byte-of-requires
 byte-of-requires c κs = search needs
 
--- src/lib.rt:64:14
 driven-by-requires : tie.Need-driven-by-requires
 driven-by-requires c κs = search needs
 
--- src/lib.rt:51:1
 returns : tie.Need-returns
 unfolding datumAt
 returns c =
@@ -42,7 +32,6 @@ returns c =
     let kind : kindAt ns (s .args .n) ≡ 0 = sym (c .before .kind-of .ensures) ∙ c .match .keys1 in
     rw kind (ap (Value 1) (c .before .before .first-of .ensures .0))
 
--- src/lib.rt:51:1
 returns-2 : tie.Need-returns-2
 unfolding datumAt
 returns-2 c =
@@ -52,7 +41,6 @@ returns-2 c =
     let kind : kindAt ns (s .args .n) ≡ 2 = sym (c .before .kind-of .ensures) ∙ c .match .keys2 in
     rw kind
 
--- src/lib.rt:51:1
 returns-3 : tie.Need-returns-3
 unfolding datumAt
 returns-3 c =

@@ -1,3 +1,4 @@
+-- `operand` meets its contract: the child is there, since it is an operand (`child-of`).
 use Rattle.accepted.specs.Operands.{child-of}
 use Rattle.lists.specs.Laid.{part-fits}
 use lib.ListN.{length}
@@ -6,33 +7,24 @@ use native.Mathlib.Omega.{arith}
 use borrow.Author.Needs.{needs}
 use Rattle.accepted.proofs.operand.Statement.{statement}
 use Rattle.accepted.proofs.operand.Tie as tie
-use Rattle.accepted.proofs.operand.Reads as reads
-use Rattle.accepted.proofs.operand.Lts as lts
-use Rattle.lists.proofs.children.children_of.Reads as children-of-reads
-use Rattle.nodes.proofs.wide.Reads as wide-reads
 
--- src/lib.rt:35:9
 children-of-requires : tie.Need-children-of-requires
 children-of-requires c κs =
     let s = c .before .before in
     let n = s .args .n in
     (s .pre .1 .0 .inside, part-fits (s .args .nodes .now) (s .args .pool .now) n (s .pre .0 .0 n (s .pre .1 .0 .inside)))
 
--- src/lib.rt:36:10
 mul-wide : tie.Need-mul-wide
 mul-wide c =
     let s = c .before .before .before in
     let l : s .args .i < length (c .children-of .result .now) = rw (c .children-of .ensures) (s .pre .1 .1 .inside) in omega arith
 
--- src/lib.rt:36:10
 shared-slice-read-wide : tie.Need-shared-slice-read-wide
 shared-slice-read-wide c = rw (c .before .children-of .ensures) (c .before .before .before .before .pre .1 .1 .inside)
 
--- src/lib.rt:36:5
 wide-requires : tie.Need-wide-requires
 wide-requires c κs = search needs
 
--- src/lib.rt:29:1
 returns : tie.Need-returns
 returns c =
     let s = c .before .before .before .before .before in

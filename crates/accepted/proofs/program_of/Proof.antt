@@ -1,3 +1,4 @@
+-- `program_of` meets its contract: a Lut that was accepted has a first child, and it is a Program.
 use Rattle.accepted.specs.Operands.{lut-children}
 use Rattle.lists.specs.Laid.{part-fits}
 use Rattle.meaning.specs.Rules.Trees.{nodeCount, childrenAt, datumAt}
@@ -7,30 +8,21 @@ use mathlib.Core.Path.{_≡_, ap, _∙_}
 use borrow.Author.Needs.{needs}
 use Rattle.accepted.proofs.program_of.Statement.{statement}
 use Rattle.accepted.proofs.program_of.Tie as tie
-use Rattle.accepted.proofs.program_of.Reads as reads
-use Rattle.accepted.proofs.program_of.Lts as lts
-use Rattle.lists.proofs.children.children_of.Reads as children-of-reads
-use Rattle.nodes.proofs.datum_of.Reads as datum-of-reads
-use Rattle.nodes.proofs.wide.Reads as wide-reads
 
--- src/lib.rt:46:9
 children-of-requires : tie.Need-children-of-requires
 children-of-requires c κs =
     let s = c .before .before in
     let n = s .args .n in
     (s .pre .1 .0 .inside, part-fits (s .args .nodes .now) (s .args .pool .now) n (s .pre .0 .0 n (s .pre .1 .0 .inside)))
 
--- src/lib.rt:47:26
 shared-slice-read-wide : tie.Need-shared-slice-read-wide
 shared-slice-read-wide c =
     let s = c .before .before .before .before in
     rw (c .before .children-of .ensures) (lut-children (s .args .nodes .now) (s .args .pool .now) (s .pre .0) (s .args .n) (s .pre .1 .0) (s .pre .1 .1) .some)
 
--- src/lib.rt:47:21
 wide-requires : tie.Need-wide-requires
 wide-requires c κs = search needs
 
--- src/lib.rt:47:5
 datum-of-requires : tie.Need-datum-of-requires
 datum-of-requires c κs =
     let s = c .before .before .before .before .before in
@@ -41,7 +33,6 @@ datum-of-requires c κs =
     let inside : getD (childrenAt ns ps n) 0 0 < nodeCount ns = lut-children ns ps (s .pre .0) n (s .pre .1 .0) (s .pre .1 .1) .inside in
     rw first inside
 
--- src/lib.rt:40:1
 returns : tie.Need-returns
 returns c =
     let s = c .before .before .before .before .before .before in

@@ -9,8 +9,6 @@ use lib.Seq.{drop-length}
 use Rattle.meaning.specs.Rules.Lent.{cleared}
 use Rattle.columns.proofs.clear.Statement.{statement}
 use Rattle.columns.proofs.clear.Tie as tie
-use Rattle.columns.proofs.clear.Reads as reads
-use Rattle.columns.proofs.clear.Lts as lts
 
 abbrev Inv-loop : tie.InvT-loop
 Inv-loop work₀ i₀ i-end work i = (i ≤ length work₀) × (i-end ≡ length work₀) × (length work ≡ length work₀) × (work ≡ replicate i 0 ++ drop i work₀)
@@ -18,27 +16,21 @@ Inv-loop work₀ i₀ i-end work i = (i ≤ length work₀) × (i-end ≡ length
 abbrev μ-loop : tie.MeasureT-loop
 μ-loop work₀ i₀ i-end work i = i-end - i
 
--- src/lib.rt:249:5
 loop-holds : tie.Need-loop-holds Inv-loop μ-loop
 loop-holds c = (omega arith, refl, refl, fill-none (c .args .work .now) 0)
 
--- src/lib.rt:250:9
 mul-work : tie.Need-mul-work Inv-loop μ-loop
 mul-work c = search needs
 
--- src/lib.rt:250:9
 slice-write-work : tie.Need-slice-write-work Inv-loop μ-loop
 slice-write-work c = search needs
 
--- src/lib.rt:249:9
 add-i : tie.Need-add-i Inv-loop μ-loop
 add-i c = search needs
 
--- src/lib.rt:249:5
 loop-less : tie.Need-loop-less Inv-loop μ-loop
 loop-less c = search needs
 
--- src/lib.rt:249:5
 loop-again : tie.Need-loop-again Inv-loop μ-loop
 loop-again c = (
   omega arith,
@@ -47,11 +39,9 @@ loop-again c = (
   rw (c .before .loop .inv .3) (fill-more (c .before .loop .i) 0 (c .before .before .args .work .now) (omega arith)),
 )
 
--- src/lib.rt:246:1
 same-length : tie.Need-same-length Inv-loop μ-loop
 same-length c = search needs
 
--- src/lib.rt:246:1
 returns : tie.Need-returns Inv-loop μ-loop
 unfolding cleared
 returns c =

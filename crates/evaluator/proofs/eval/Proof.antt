@@ -1,3 +1,4 @@
+-- `eval` meets its contract: 1, 2 and 10 leave everything; else the rest of the row answers, and the work space is cleared.
 use Rattle.evaluator.specs.Outcome.{refusedWith, restRow, refused-lent, answered}
 use Rattle.sizes.specs.Lent.{lentRow, lent-room}
 use Rattle.columns.specs.ColumnLaws.{cleared-alike}
@@ -14,22 +15,13 @@ use mathlib.Core.Path.{_≡_, sym, ap, ap₂, _∙_}
 use borrow.Author.Needs.{needs}
 use Rattle.evaluator.proofs.eval.Statement.{statement}
 use Rattle.evaluator.proofs.eval.Tie as tie
-use Rattle.evaluator.proofs.eval.Reads as reads
-use Rattle.evaluator.proofs.eval.Lts as lts
-use Rattle.columns.proofs.clear.Reads as clear-reads
-use Rattle.evaluator.proofs.evaluated.Reads as evaluated-reads
-use Rattle.evaluator.proofs.refused.Reads as refused-reads
-use Rattle.sizes.proofs.lent.Reads as lent-reads
 
--- src/lib.rt:43:9
 lent-requires : tie.Need-lent-requires
 lent-requires c κs = search needs
 
--- src/lib.rt:45:9
 refused-requires : tie.Need-refused-requires
 refused-requires c κs = search needs
 
--- src/lib.rt:45:9
 returns : tie.Need-returns
 returns c =
     let s = c .before .before .before .before .before .before .before .before .before in
@@ -43,7 +35,6 @@ returns c =
     let given : c .refused .result ≡ refusedWith (lentRow ns ps (length work)) = c .refused .ensures ∙ ap refusedWith first in
     ap (λ (e : Evaluation). evaluated e work out) given ∙ refused-lent ns ps bytes work out refused
 
--- src/lib.rt:47:9
 evaluated-requires : tie.Need-evaluated-requires
 evaluated-requires c κs =
     let s = c .before .before .before .before .before .before .before .before .before .before in
@@ -55,19 +46,15 @@ evaluated-requires c κs =
     let roomy = lent-room ns ps (length work) passed in
     (roomy .0, omega (arith, roomy .1))
 
--- src/lib.rt:48:5
 clear-requires : tie.Need-clear-requires
 clear-requires c κs = search needs
 
--- src/lib.rt:40:1
 same-length : tie.Need-same-length
 same-length c = search needs
 
--- src/lib.rt:40:1
 same-length-2 : tie.Need-same-length-2
 same-length-2 c = search needs
 
--- src/lib.rt:40:1
 returns-2 : tie.Need-returns-2
 returns-2 c =
     let s = c .before .before .before .before .before .before .before .before .before .before .before .before .before .before .before .before .before .before .before in

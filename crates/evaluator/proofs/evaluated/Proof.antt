@@ -1,3 +1,4 @@
+-- `evaluated` meets its contract: a refusal leaves the output; past all tests the rows show the root's answer and every pair.
 use Rattle.evaluator.specs.Done.{output-room, prepared, afterPass, rows-room, rooted, root-wide, root-shape, root-answer, all-written}
 use Rattle.evaluator.specs.Outcome.{refusedWith, restRow, evaluation-refused, evaluation-done}
 use Rattle.evaluator.specs.Output.{rowPairs}
@@ -22,30 +23,18 @@ use mathlib.Core.Path.{_≡_, sym, ap, ap₂, subst, _∙_}
 use borrow.Author.Needs.{needs}
 use Rattle.evaluator.proofs.evaluated.Statement.{statement}
 use Rattle.evaluator.proofs.evaluated.Tie as tie
-use Rattle.evaluator.proofs.evaluated.Reads as reads
-use Rattle.evaluator.proofs.evaluated.Lts as lts
-use Rattle.evaluator.proofs.output.write_pairs.Reads as write-pairs-reads
-use Rattle.evaluator.proofs.refused.Reads as refused-reads
-use Rattle.evaluator.proofs.rest_refusal.Reads as rest-refusal-reads
-use Rattle.nodes.proofs.node_count.Reads as node-count-reads
-use Rattle.pass.proofs.pass.Reads as pass-reads
-use Rattle.rows.proofs.answer_at.Reads as answer-at-reads
 
--- src/lib.rt:69:9
 rest-refusal-requires : tie.Need-rest-refusal-requires
 rest-refusal-requires c κs =
     let s = c .before .before .before .before .before .before in
     (s .pre .0, s .pre .1)
 
--- src/lib.rt:71:9
 refused-requires : tie.Need-refused-requires
 refused-requires c κs = search needs
 
--- src/lib.rt:71:9
 same-length : tie.Need-same-length
 same-length c = search needs
 
--- src/lib.rt:71:9
 returns : tie.Need-returns
 returns c =
     let s = c .before .before .before .before .before .before .before .before .before .before .before .before in
@@ -59,7 +48,6 @@ returns c =
     let refused : rest .number ≢ 0 = λ e. omega (arith, c .before .if1 .taken, ap (λ (r : Refusal). r .number) first, e) in
     (c .refused .ensures ∙ ap refusedWith first ∙ evaluation-refused ns ps bytes rest refused, sym (refused-output rest (pairs ns ps bytes) out refused))
 
--- src/lib.rt:73:5
 pass-requires : tie.Need-pass-requires
 pass-requires c κs =
     let s = c .before .before .before .before .before .before .before .before .before .before .before .before in
@@ -74,11 +62,9 @@ pass-requires c κs =
     let room : workPerNode * nodeCount ns ≤ length work = s .pre .1 in
     subst (Prepared ns ps 0) (sym (c .before .before .before .before .before .rest-refusal .ensures .1)) (prepared ns ps bytes work out room done)
 
--- src/lib.rt:74:9
 node-count-requires : tie.Need-node-count-requires
 node-count-requires c κs = search needs
 
--- src/lib.rt:75:5
 write-pairs-requires : tie.Need-write-pairs-requires
 write-pairs-requires c κs =
     let s = c .before .before .before .before .before .before .before .before .before .before .before .before .before .before .before .before .before .before in
@@ -97,7 +83,6 @@ write-pairs-requires c κs =
     let rows : workPerNode * nodeCount ns ≤ length (afterPass ns ps bytes work out room done) = rows-room ns ps bytes work out room done in
     (rw (count, after) rows, rw count (output-room ns ps bytes work out room done))
 
--- src/lib.rt:78:33
 sub-answer-at : tie.Need-sub-answer-at
 sub-answer-at c =
     let s = c .before .before .before .before .before .before .before .before .before .before .before .before .before .before .before .before .before .before .before .before .before .before in
@@ -113,7 +98,6 @@ sub-answer-at c =
     let count : c .before .before .before .before .before .before .node-count .result ≡ nodeCount ns = c .before .before .before .before .before .before .node-count .ensures in
     omega (arith, count, rooted ns ps bytes work out room done)
 
--- src/lib.rt:78:17
 answer-at-requires : tie.Need-answer-at-requires
 answer-at-requires c κs =
     let s = c .before .before .before .before .before .before .before .before .before .before .before .before .before .before .before .before .before .before .before .before .before .before in
@@ -135,15 +119,12 @@ answer-at-requires c κs =
     let there : workPerNode * (nodeCount ns - 1 + 1) ≤ length (afterPass ns ps bytes work out room done) = omega arith in
     rw (count, after) (there, wide)
 
--- src/lib.rt:63:1
 same-length-2 : tie.Need-same-length-2
 same-length-2 c = search needs
 
--- src/lib.rt:63:1
 same-length-3 : tie.Need-same-length-3
 same-length-3 c = search needs
 
--- src/lib.rt:63:1
 returns-2 : tie.Need-returns-2
 returns-2 c =
     let s = c .before .before .before .before .before .before .before .before .before .before .before .before .before .before .before .before .before .before .before .before .before .before .before in

@@ -1,3 +1,4 @@
+-- `rest_refusal` meets its contract: test by test, in the order of the row.
 use Rattle.meaning.specs.Rules.Calls.{assigned, fitsPairs}
 use Rattle.meaning.specs.Rules.Evaluable.{sound}
 use Rattle.meaning.specs.Rules.Refusals.{_then_, require}
@@ -11,53 +12,36 @@ use mathlib.Core.Path.{_≡_, ap, ap₂, _∙_}
 use borrow.Author.Needs.{needs}
 use Rattle.evaluator.proofs.rest_refusal.Statement.{statement}
 use Rattle.evaluator.proofs.rest_refusal.Tie as tie
-use Rattle.evaluator.proofs.rest_refusal.Reads as reads
-use Rattle.evaluator.proofs.rest_refusal.Lts as lts
-use Rattle.evaluator.proofs.assignment.is_assignment.Reads as is-assignment-reads
-use Rattle.nodes.proofs.node_count.Reads as node-count-reads
-use Rattle.refusals.proofs.first_refusal.Reads as first-refusal-reads
-use Rattle.refusals.proofs.require.Reads as require-reads
-use Rattle.verifier.proofs.sound.Reads as sound-reads
 
--- src/lib.rt:89:9
 sound-requires : tie.Need-sound-requires
 sound-requires c κs =
     let s = c .before .before .before .before .before in
     (s .pre .0, omega (arith, s .pre .1))
 
--- src/lib.rt:90:28
 is-assignment-requires : tie.Need-is-assignment-requires
 is-assignment-requires c κs = search needs
 
--- src/lib.rt:90:9
 require-requires : tie.Need-require-requires
 require-requires c κs = search needs
 
--- src/lib.rt:91:34
 node-count-requires : tie.Need-node-count-requires
 node-count-requires c κs = search needs
 
--- src/lib.rt:91:27
 mul-require : tie.Need-mul-require
 mul-require c = search needs
 
--- src/lib.rt:91:9
 require-requires-2 : tie.Need-require-requires-2
 require-requires-2 c κs = search needs
 
--- src/lib.rt:92:27
 first-refusal-requires : tie.Need-first-refusal-requires
 first-refusal-requires c κs = search needs
 
--- src/lib.rt:92:5
 first-refusal-requires-2 : tie.Need-first-refusal-requires-2
 first-refusal-requires-2 c κs = search needs
 
--- src/lib.rt:83:1
 same-length : tie.Need-same-length
 same-length c = search needs
 
--- src/lib.rt:83:1
 returns : tie.Need-returns
 returns c =
     let s = c .before .before .before .before .before .before .before .before .before .before .before .before .before .before in

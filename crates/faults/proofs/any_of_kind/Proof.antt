@@ -13,10 +13,6 @@ use Rattle.lists.specs.Scan.{some-stop, some-more, some-done}
 use Rattle.faults.specs.Leaves.{some-leaves}
 use Rattle.faults.proofs.any_of_kind.Statement.{statement}
 use Rattle.faults.proofs.any_of_kind.Tie as tie
-use Rattle.faults.proofs.any_of_kind.Reads as reads
-use Rattle.faults.proofs.any_of_kind.Lts as lts
-use Rattle.nodes.proofs.kind_of.Reads as kind-of-reads
-use Rattle.nodes.proofs.wide.Reads as wide-reads
 
 abbrev Inv-loop : tie.InvT-loop
 Inv-loop nodes children kind at₀ at-end at = (at ≤ at-end) × (at-end ≡ length children) × (some (λ k. eqb (kindAt nodes k) kind) (drop at children) ≡ some (λ k. eqb (kindAt nodes k) kind) children)
@@ -24,27 +20,21 @@ Inv-loop nodes children kind at₀ at-end at = (at ≤ at-end) × (at-end ≡ le
 abbrev μ-loop : tie.MeasureT-loop
 μ-loop nodes children kind at₀ at-end at = at-end - at
 
--- src/lib.rt:111:5
 loop-holds : tie.Need-loop-holds Inv-loop μ-loop
 loop-holds c = (omega arith, refl, refl)
 
--- src/lib.rt:112:32
 mul-wide : tie.Need-mul-wide Inv-loop μ-loop
 mul-wide c = search needs
 
--- src/lib.rt:112:32
 shared-slice-read-wide : tie.Need-shared-slice-read-wide Inv-loop μ-loop
 shared-slice-read-wide c = search needs
 
--- src/lib.rt:112:27
 wide-requires : tie.Need-wide-requires Inv-loop μ-loop
 wide-requires c κs = search needs
 
--- src/lib.rt:112:12
 kind-of-requires : tie.Need-kind-of-requires Inv-loop μ-loop
 kind-of-requires c κs = omega (arith, c .before .before .before .before .before .before .pre (c .before .before .before .loop .at) (omega arith), c .wide .ensures .0)
 
--- src/lib.rt:113:13
 returns : tie.Need-returns Inv-loop μ-loop
 returns c =
     let s = c .before .before .before .before .before .before .before .before in
@@ -56,15 +46,12 @@ returns c =
     let read : c .before .kind-of .result ≡ kindAt ns (getD ks (l .at) 0) = c .before .kind-of .ensures ∙ ap (kindAt ns) (c .before .before .wide .ensures .0) in
     sym (some-stop 0 test ks (l .at) (omega arith) (eq-eqb (kindAt ns (getD ks (l .at) 0)) kind (omega (arith, read, c .if1 .taken)))) ∙ l .inv .2 ∙ sym (some-leaves ns (λ t. eqb (kindWord t) kind) ks)
 
--- src/lib.rt:111:9
 add-at : tie.Need-add-at Inv-loop μ-loop
 add-at c = search needs
 
--- src/lib.rt:111:5
 loop-less : tie.Need-loop-less Inv-loop μ-loop
 loop-less c = search needs
 
--- src/lib.rt:111:5
 loop-again : tie.Need-loop-again Inv-loop μ-loop
 loop-again c =
     let s = c .before .before .before .before .before .before .before .before in
@@ -79,7 +66,6 @@ loop-again c =
       some-more 0 test ks (l .at) (omega arith) (ne-eqb (kindAt ns (getD ks (l .at) 0)) kind (λ e. omega (arith, read, c .if1 .left, e))) ∙ l .inv .2,
     )
 
--- src/lib.rt:107:1
 returns-2 : tie.Need-returns-2 Inv-loop μ-loop
 returns-2 c =
     let s = c .before .before .before .before in

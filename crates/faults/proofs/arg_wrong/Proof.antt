@@ -12,31 +12,21 @@ use Rattle.meaning.specs.Rules.Kinds.{programWord}
 use Rattle.faults.specs.Leaves.{arg-words, arg-none}
 use Rattle.faults.proofs.arg_wrong.Statement.{statement}
 use Rattle.faults.proofs.arg_wrong.Tie as tie
-use Rattle.faults.proofs.arg_wrong.Reads as reads
-use Rattle.faults.proofs.arg_wrong.Lts as lts
-use Rattle.nodes.proofs.datum_of.Reads as datum-of-reads
-use Rattle.nodes.proofs.kind_of.Reads as kind-of-reads
-use Rattle.nodes.proofs.wide.Reads as wide-reads
 
--- src/lib.rt:86:9
 returns : tie.Need-returns
 returns c =
     let s = c .before .before .before in
     sym (arg-none (s .args .nodes .now) (s .args .depth) (s .args .children .now) (c .if1 .taken))
 
--- src/lib.rt:88:22
 shared-slice-read-wide : tie.Need-shared-slice-read-wide
 shared-slice-read-wide c = search needs
 
--- src/lib.rt:88:9
 wide-requires : tie.Need-wide-requires
 wide-requires c κs = search needs
 
--- src/lib.rt:89:8
 kind-of-requires : tie.Need-kind-of-requires
 kind-of-requires c κs = omega (arith, c .before .before .before .before .before .pre 0 (omega arith), c .wide .ensures .0)
 
--- src/lib.rt:90:9
 returns-2 : tie.Need-returns-2
 returns-2 c =
     let s = c .before .before .before .before .before .before .before in
@@ -49,11 +39,9 @@ returns-2 c =
     let other : eqb (kindAt ns (getD ks 0 0)) programWord ≡ false = ne-eqb (kindAt ns (getD ks 0 0)) programWord (λ e. omega (arith, kind, c .if2 .taken, e)) in
     sym (arg-words ns depth ks any ∙ rw other)
 
--- src/lib.rt:92:14
 datum-of-requires : tie.Need-datum-of-requires
 datum-of-requires c κs = omega (arith, c .before .before .before .before .before .before .before .pre 0 (omega arith), c .before .before .wide .ensures .0)
 
--- src/lib.rt:81:1
 returns-3 : tie.Need-returns-3
 returns-3 c =
     let s = c .before .before .before .before .before .before .before .before in

@@ -8,15 +8,10 @@ use Rattle.faults.specs.Leaves.{leaves, some-or}
 use borrow.Author.Needs.{needs}
 use Rattle.faults.proofs.bus_wrong.Statement.{statement}
 use Rattle.faults.proofs.bus_wrong.Tie as tie
-use Rattle.faults.proofs.bus_wrong.Reads as reads
-use Rattle.faults.proofs.bus_wrong.Lts as lts
-use Rattle.faults.proofs.any_of_kind.Reads as any-of-kind-reads
 
--- src/lib.rt:100:8
 any-of-kind-requires : tie.Need-any-of-kind-requires
 any-of-kind-requires c κs = search needs
 
--- src/lib.rt:101:9
 returns : tie.Need-returns
 returns c =
     let s = c .before .before .before .before in
@@ -24,11 +19,9 @@ returns c =
     let programs : some isProgram members ≡ true = sym (c .before .any-of-kind .ensures) ∙ c .if1 .taken in
     sym (some-or isProgram isBus members ∙ rw programs)
 
--- src/lib.rt:103:5
 any-of-kind-requires-2 : tie.Need-any-of-kind-requires-2
 any-of-kind-requires-2 c κs = search needs
 
--- src/lib.rt:96:1
 returns-2 : tie.Need-returns-2
 returns-2 c =
     let s = c .before .before .before .before .before in

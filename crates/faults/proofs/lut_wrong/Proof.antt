@@ -13,32 +13,21 @@ use Rattle.meaning.specs.Rules.Kinds.{programWord}
 use Rattle.faults.specs.Leaves.{lut-words, lut-none, lut-other}
 use Rattle.faults.proofs.lut_wrong.Statement.{statement}
 use Rattle.faults.proofs.lut_wrong.Tie as tie
-use Rattle.faults.proofs.lut_wrong.Reads as reads
-use Rattle.faults.proofs.lut_wrong.Lts as lts
-use Rattle.nodes.proofs.datum_of.Reads as datum-of-reads
-use Rattle.nodes.proofs.kind_of.Reads as kind-of-reads
-use Rattle.nodes.proofs.wide.Reads as wide-reads
-use Rattle.tables.proofs.rows.table_fits.Reads as table-fits-reads
 
--- src/lib.rt:70:9
 returns : tie.Need-returns
 returns c =
     let s = c .before .before .before in
     sym (lut-none (s .args .nodes .now) (s .args .children .now) (c .if1 .taken))
 
--- src/lib.rt:72:24
 shared-slice-read-wide : tie.Need-shared-slice-read-wide
 shared-slice-read-wide c = search needs
 
--- src/lib.rt:72:9
 wide-requires : tie.Need-wide-requires
 wide-requires c κs = search needs
 
--- src/lib.rt:73:8
 kind-of-requires : tie.Need-kind-of-requires
 kind-of-requires c κs = omega (arith, c .before .before .before .before .before .pre 0 (omega arith), c .wide .ensures .0)
 
--- src/lib.rt:74:9
 returns-2 : tie.Need-returns-2
 returns-2 c =
     let s = c .before .before .before .before .before .before .before in
@@ -50,19 +39,15 @@ returns-2 c =
     let other : eqb (kindAt ns (getD ks 0 0)) programWord ≡ false = ne-eqb (kindAt ns (getD ks 0 0)) programWord (λ e. omega (arith, kind, c .if2 .taken, e)) in
     sym (lut-other ns ks any other)
 
--- src/lib.rt:76:20
 sub-operands : tie.Need-sub-operands
 sub-operands c = search needs
 
--- src/lib.rt:77:17
 datum-of-requires : tie.Need-datum-of-requires
 datum-of-requires c κs = omega (arith, c .before .before .before .before .before .before .before .pre 0 (omega arith), c .before .before .wide .ensures .0)
 
--- src/lib.rt:77:6
 table-fits-requires : tie.Need-table-fits-requires
 table-fits-requires c κs = search needs
 
--- src/lib.rt:65:1
 returns-3 : tie.Need-returns-3
 returns-3 c =
     let s = c .before .before .before .before .before .before .before .before .before in

@@ -12,13 +12,7 @@ use Rattle.lists.specs.Laid.{part-fits}
 use Rattle.faults.specs.Leaves.{leaves, are-nodes, fault-unreached, fault-reached}
 use Rattle.faults.proofs.verify_fault.Statement.{statement}
 use Rattle.faults.proofs.verify_fault.Tie as tie
-use Rattle.faults.proofs.verify_fault.Reads as reads
-use Rattle.faults.proofs.verify_fault.Lts as lts
-use Rattle.faults.proofs.wrong.Reads as wrong-reads
-use Rattle.lists.proofs.children.children_of.Reads as children-of-reads
-use Rattle.nodes.proofs.kind_of.Reads as kind-of-reads
 
--- src/lib.rt:37:9
 returns : tie.Need-returns
 returns c =
     let s = c .before .before .before in
@@ -29,7 +23,6 @@ returns c =
     let mark : s .args .mark ≡ markOf ns ps i = s .pre .1 .1 in
     sym (fault-unreached ns ps (s .pre .0) i (sym mark ∙ c .if1 .taken))
 
--- src/lib.rt:39:9
 children-of-requires : tie.Need-children-of-requires
 children-of-requires c κs =
     let s = c .before .before .before in
@@ -39,15 +32,12 @@ children-of-requires c κs =
     let inside : i < nodeCount ns = s .pre .1 .0 in
     let mark : s .args .mark ≡ markOf ns ps i = s .pre .1 .1 in (inside, part-fits ns ps i (s .pre .0 i inside))
 
--- src/lib.rt:40:21
 kind-of-requires : tie.Need-kind-of-requires
 kind-of-requires c κs = search needs
 
--- src/lib.rt:40:50
 sub-wrong : tie.Need-sub-wrong
 sub-wrong c = search needs
 
--- src/lib.rt:40:8
 wrong-requires : tie.Need-wrong-requires
 wrong-requires c κs =
     let s = c .before .before .before .before .before in
@@ -59,7 +49,6 @@ wrong-requires c κs =
     let known : kindAt ns i ≤ cycleWord = s .pre .0 i inside .0 in
     (omega (arith, c .kind-of .ensures, known), rw (c .before .children-of .ensures) (are-nodes ns ps (s .pre .0) i inside))
 
--- src/lib.rt:41:9
 returns-2 : tie.Need-returns-2
 returns-2 c =
     let s = c .before .before .before .before .before .before .before in
@@ -74,7 +63,6 @@ returns-2 c =
     ∙ ap (λ (cs : List ℕ). wrong (kindOf (kindAt ns i)) (markOf ns ps i - 1) (leaves ns cs)) (c .before .before .before .children-of .ensures) in
     sym (fault-reached ns ps (s .pre .0) i true inside (omega (arith, mark)) (sym asked ∙ c .if2 .taken))
 
--- src/lib.rt:30:1
 returns-3 : tie.Need-returns-3
 returns-3 c =
     let s = c .before .before .before .before .before .before .before in

@@ -11,62 +11,43 @@ use Rattle.faults.specs.Leaves.{leaves}
 use borrow.Author.Needs.{needs}
 use Rattle.faults.proofs.wrong.Statement.{statement}
 use Rattle.faults.proofs.wrong.Tie as tie
-use Rattle.faults.proofs.wrong.Reads as reads
-use Rattle.faults.proofs.wrong.Lts as lts
-use Rattle.faults.proofs.any_of_kind.Reads as any-of-kind-reads
-use Rattle.faults.proofs.arg_wrong.Reads as arg-wrong-reads
-use Rattle.faults.proofs.bus_wrong.Reads as bus-wrong-reads
-use Rattle.faults.proofs.lut_wrong.Reads as lut-wrong-reads
 
--- src/lib.rt:53:14
 any-of-kind-requires : tie.Need-any-of-kind-requires
 any-of-kind-requires c κs = search needs
 
--- src/lib.rt:54:14
 any-of-kind-requires-2 : tie.Need-any-of-kind-requires-2
 any-of-kind-requires-2 c κs = search needs
 
--- src/lib.rt:55:14
 any-of-kind-requires-3 : tie.Need-any-of-kind-requires-3
 any-of-kind-requires-3 c κs = search needs
 
--- src/lib.rt:56:14
 lut-wrong-requires : tie.Need-lut-wrong-requires
 lut-wrong-requires c κs = search needs
 
--- src/lib.rt:57:15
 bus-wrong-requires : tie.Need-bus-wrong-requires
 bus-wrong-requires c κs = search needs
 
--- src/lib.rt:58:15
 arg-wrong-requires : tie.Need-arg-wrong-requires
 arg-wrong-requires c κs = search needs
 
--- src/lib.rt:47:1
 returns : tie.Need-returns
 returns c = c .any-of-kind .ensures ∙ rw (c .before .match .keys1)
 
--- src/lib.rt:47:1
 returns-2 : tie.Need-returns-2
 returns-2 c = c .any-of-kind2 .ensures ∙ rw (c .before .match .keys2)
 
--- src/lib.rt:47:1
 returns-3 : tie.Need-returns-3
 returns-3 c = c .any-of-kind3 .ensures ∙ rw (c .before .match .keys3)
 
--- src/lib.rt:47:1
 returns-4 : tie.Need-returns-4
 returns-4 c = c .lut-wrong .ensures ∙ rw (c .before .match .keys4)
 
--- src/lib.rt:47:1
 returns-5 : tie.Need-returns-5
 returns-5 c = c .bus-wrong .ensures ∙ rw (c .before .match .keys5)
 
--- src/lib.rt:47:1
 returns-6 : tie.Need-returns-6
 returns-6 c = c .arg-wrong .ensures ∙ rw (c .before .match .keys6)
 
--- src/lib.rt:47:1
 returns-7 : tie.Need-returns-7
 returns-7 c =
     let s = c .before .before .before in

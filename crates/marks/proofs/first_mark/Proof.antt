@@ -7,14 +7,10 @@ use native.Mathlib.Omega.{arith}
 use borrow.Author.Needs.{needs}
 use Rattle.marks.proofs.first_mark.Statement.{statement}
 use Rattle.marks.proofs.first_mark.Tie as tie
-use Rattle.marks.proofs.first_mark.Reads as reads
-use Rattle.marks.proofs.first_mark.Lts as lts
 
--- src/lib.rt:61:8
 add-if1 : tie.Need-add-if1
 add-if1 c = search needs
 
--- src/lib.rt:62:9
 returns : tie.Need-returns
 returns c =
     let s = c .before in
@@ -23,7 +19,6 @@ returns c =
     let root : eqb (suc i) n ≡ true = eq-eqb (suc i) n (omega (arith, c .if1 .taken)) in
     rw root
 
--- src/lib.rt:57:1
 returns-2 : tie.Need-returns-2
 returns-2 c =
     let s = c .before in

@@ -13,27 +13,16 @@ use Rattle.columns.specs.Columns.{cell, markColumn}
 use Rattle.marks.specs.Handing.{lowered, handedOn, turn-reached, turn-unreached}
 use Rattle.marks.proofs.hand_on.Statement.{statement}
 use Rattle.marks.proofs.hand_on.Tie as tie
-use Rattle.marks.proofs.hand_on.Reads as reads
-use Rattle.marks.proofs.hand_on.Lts as lts
-use Rattle.columns.proofs.get.Reads as get-reads
-use Rattle.lists.proofs.children.children_of.Reads as children-of-reads
-use Rattle.nodes.proofs.kind_of.Reads as kind-of-reads
-use Rattle.marks.proofs.handed_on.Reads as handed-on-reads
-use Rattle.marks.proofs.lower_all.Reads as lower-all-reads
 
--- src/lib.rt:68:32
 add-get : tie.Need-add-get
 add-get c = search needs
 
--- src/lib.rt:68:9
 get-requires : tie.Need-get-requires
 get-requires c κs = search needs
 
--- src/lib.rt:70:9
 same-length : tie.Need-same-length
 same-length c = search needs
 
--- src/lib.rt:70:9
 returns : tie.Need-returns
 returns c =
     let s = c .before .before .before .before .before .before in
@@ -45,21 +34,17 @@ returns c =
     let none : cell work markColumn (base + p) ≡ 0 = sym (c .before .get .ensures) ∙ c .if1 .taken in
     sym (turn-unreached ns ps base p work none)
 
--- src/lib.rt:72:28
 kind-of-requires : tie.Need-kind-of-requires
 kind-of-requires c κs = search needs
 
--- src/lib.rt:72:9
 handed-on-requires : tie.Need-handed-on-requires
 handed-on-requires c κs = omega (arith, c .before .before .get .ensures, c .before .before .before .before .before .before .before .pre .1 .1 .1)
 
--- src/lib.rt:73:15
 children-of-requires : tie.Need-children-of-requires
 children-of-requires c κs =
     let s = c .before .before .before .before .before .before .before .before in
     (s .pre .0, part-fits (s .args .nodes .now) (s .args .pool .now) (s .args .p) (s .pre .1 .0))
 
--- src/lib.rt:73:5
 lower-all-requires : tie.Need-lower-all-requires
 lower-all-requires c κs =
     let s = c .before .before .before .before .before .before .before .before .before .before in
@@ -72,11 +57,9 @@ lower-all-requires c κs =
     let l : k < length (childrenAt ns ps p) = rw (c .before .children-of .ensures) at h in
     rw (c .before .children-of .ensures) (omega (arith, s .pre .1 .0 .2 k l, s .pre .0, s .pre .1 .1 .0))
 
--- src/lib.rt:61:1
 same-length-2 : tie.Need-same-length-2
 same-length-2 c = search needs
 
--- src/lib.rt:61:1
 returns-2 : tie.Need-returns-2
 returns-2 c =
     let s = c .before .before .before .before .before .before .before .before .before .before .before .before .before in

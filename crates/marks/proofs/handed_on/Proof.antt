@@ -8,14 +8,10 @@ use native.Mathlib.Numerals.{add-one}
 use borrow.Author.Needs.{needs}
 use Rattle.marks.proofs.handed_on.Statement.{statement}
 use Rattle.marks.proofs.handed_on.Tie as tie
-use Rattle.marks.proofs.handed_on.Reads as reads
-use Rattle.marks.proofs.handed_on.Lts as lts
 
--- src/lib.rt:94:16
 add-result : tie.Need-add-result
 add-result c = search needs
 
--- src/lib.rt:94:9
 returns : tie.Need-returns
 returns c =
     let s = c .before in
@@ -24,7 +20,6 @@ returns c =
     let counted : cond (eqb kind cycleWord) (suc mark) mark ≡ suc mark = rw (eq-eqb kind cycleWord (c .if1 .taken)) in
     add-one mark ∙ sym counted
 
--- src/lib.rt:89:1
 returns-2 : tie.Need-returns-2
 returns-2 c =
     let s = c .before in

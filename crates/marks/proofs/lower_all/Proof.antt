@@ -9,12 +9,6 @@ use Rattle.columns.specs.Columns.{place, cell, markColumn}
 use Rattle.marks.specs.Handing.{lowerOne, lowered, lowered-more, lowered-done}
 use Rattle.marks.proofs.lower_all.Statement.{statement}
 use Rattle.marks.proofs.lower_all.Tie as tie
-use Rattle.marks.proofs.lower_all.Reads as reads
-use Rattle.marks.proofs.lower_all.Lts as lts
-use Rattle.columns.proofs.get.Reads as get-reads
-use Rattle.columns.proofs.put.Reads as put-reads
-use Rattle.nodes.proofs.wide.Reads as wide-reads
-use Rattle.marks.proofs.nearer.Reads as nearer-reads
 
 abbrev Inv-loop : tie.InvT-loop
 Inv-loop children mark base work₀ at₀ at-end work at = (at ≤ at-end) × (at-end ≡ length children) × (length work ≡ length work₀) × (lowered base mark (drop at children) work ≡ lowered base mark children work₀)
@@ -22,53 +16,42 @@ Inv-loop children mark base work₀ at₀ at-end work at = (at ≤ at-end) × (a
 abbrev μ-loop : tie.MeasureT-loop
 μ-loop children mark base work₀ at₀ at-end work at = at-end - at
 
--- src/lib.rt:81:5
 loop-holds : tie.Need-loop-holds Inv-loop μ-loop
 loop-holds c = (omega arith, refl, refl, refl)
 
--- src/lib.rt:82:31
 mul-wide : tie.Need-mul-wide Inv-loop μ-loop
 mul-wide c = search needs
 
--- src/lib.rt:82:31
 shared-slice-read-wide : tie.Need-shared-slice-read-wide Inv-loop μ-loop
 shared-slice-read-wide c = search needs
 
--- src/lib.rt:82:26
 wide-requires : tie.Need-wide-requires Inv-loop μ-loop
 wide-requires c κs = search needs
 
--- src/lib.rt:82:19
 add-row : tie.Need-add-row Inv-loop μ-loop
 add-row c =
     let l = c .before .before .before .loop in
     omega (arith, c .before .before .before .before .before .before .pre (l .at) (omega arith), c .wide .ensures .0, l .inv .2)
 
--- src/lib.rt:83:13
 get-requires : tie.Need-get-requires Inv-loop μ-loop
 get-requires c κs =
     let l = c .before .before .before .before .loop in
     omega (arith, c .before .before .before .before .before .before .before .pre (l .at) (omega arith), c .before .wide .ensures .0, l .inv .2)
 
--- src/lib.rt:84:30
 nearer-requires : tie.Need-nearer-requires Inv-loop μ-loop
 nearer-requires c κs = search needs
 
--- src/lib.rt:84:9
 put-requires : tie.Need-put-requires Inv-loop μ-loop
 put-requires c κs =
     let l = c .before .before .before .before .before .before .before .loop in
     omega (arith, c .before .before .before .before .before .before .before .before .before .before .pre (l .at) (omega arith), c .before .before .before .before .wide .ensures .0, l .inv .2)
 
--- src/lib.rt:81:9
 add-at : tie.Need-add-at Inv-loop μ-loop
 add-at c = search needs
 
--- src/lib.rt:81:5
 loop-less : tie.Need-loop-less Inv-loop μ-loop
 loop-less c = search needs
 
--- src/lib.rt:81:5
 loop-again : tie.Need-loop-again Inv-loop μ-loop
 loop-again c =
     let s = c .before .before .before .before .before .before .before .before .before .before .before .before .before in
@@ -89,11 +72,9 @@ loop-again c =
       ap (lowered base mark (drop (i + 1) cs)) stored ∙ lowered-more base mark cs work i (omega arith) ∙ l .inv .3,
     )
 
--- src/lib.rt:77:1
 same-length : tie.Need-same-length Inv-loop μ-loop
 same-length c = c .before .loop .inv .2
 
--- src/lib.rt:77:1
 returns : tie.Need-returns Inv-loop μ-loop
 returns c =
     let s = c .before .before .before .before in

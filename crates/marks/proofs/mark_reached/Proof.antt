@@ -13,11 +13,6 @@ use Rattle.marks.specs.Passing.{marked, marked-length, own-mark, mark-sm
 use Rattle.marks.specs.Handing.{onlyRoot, turn}
 use Rattle.marks.proofs.mark_reached.Statement.{statement}
 use Rattle.marks.proofs.mark_reached.Tie as tie
-use Rattle.marks.proofs.mark_reached.Reads as reads
-use Rattle.marks.proofs.mark_reached.Lts as lts
-use Rattle.nodes.proofs.node_count.Reads as node-count-reads
-use Rattle.marks.proofs.hand_on.Reads as hand-on-reads
-use Rattle.marks.proofs.mark_root.Reads as mark-root-reads
 
 abbrev Inv-loop : tie.InvT-loop
 Inv-loop nodes pool base work₀ n p₀ work p = (p ≤ nodeCount nodes) × (work ≡ marked nodes pool base work₀ (p - 1))
@@ -25,15 +20,12 @@ Inv-loop nodes pool base work₀ n p₀ work p = (p ≤ nodeCount nodes) × (wor
 abbrev μ-loop : tie.MeasureT-loop
 μ-loop nodes pool base work₀ n p₀ work p = p
 
--- src/lib.rt:37:9
 node-count-requires : tie.Need-node-count-requires Inv-loop μ-loop
 node-count-requires c κs = search needs
 
--- src/lib.rt:38:5
 mark-root-requires : tie.Need-mark-root-requires Inv-loop μ-loop
 mark-root-requires c κs = omega (arith, c .before .node-count .ensures, c .before .before .before .before .before .pre .1 .1)
 
--- src/lib.rt:40:5
 loop-holds : tie.Need-loop-holds Inv-loop μ-loop
 loop-holds c =
     let s = c .before .before .before .before .before .before .before .before in
@@ -48,11 +40,9 @@ loop-holds c =
     let all : start ≡ marked ns ps base start (c .before .before .before .before .node-count .result - 1) = start-marks ns ps base start work rooted ∙ ap (λ (n : ℕ). marked ns ps base start (n - 1)) (sym count) in
     (omega (arith, count), all)
 
--- src/lib.rt:41:13
 sub-p : tie.Need-sub-p Inv-loop μ-loop
 sub-p c = search needs
 
--- src/lib.rt:42:9
 hand-on-requires : tie.Need-hand-on-requires Inv-loop μ-loop
 hand-on-requires c κs =
     let s = c .before .before .before .before .before .before .before .before .before .before .before in
@@ -73,11 +63,9 @@ hand-on-requires c κs =
     ap (λ (w : List ℕ). cell w markColumn (base + p)) (l .inv .1) ∙ own-mark ns ps base start room p inside in
     (inside, (s .pre .0 p inside, (omega (arith, kept, room), omega (arith, own, mark-small ns ps p, s .pre .1 .0))))
 
--- src/lib.rt:40:5
 loop-less : tie.Need-loop-less Inv-loop μ-loop
 loop-less c = search needs
 
--- src/lib.rt:40:5
 loop-again : tie.Need-loop-again Inv-loop μ-loop
 loop-again c =
     let s = c .before .before .before .before .before .before .before .before .before .before .before .before .before .before in
@@ -101,7 +89,6 @@ loop-again c =
           ∙ turn-marks ns ps base start room k (omega (arith, inside)) below,
     )
 
--- src/lib.rt:31:1
 same-length : tie.Need-same-length Inv-loop μ-loop
 same-length c =
     let s = c .before .before .before .before .before .before .before .before .before .before in
@@ -115,7 +102,6 @@ same-length c =
     let rooted : start ≡ withColumn markColumn base (nodeCount ns) (onlyRoot (nodeCount ns)) work =
     c .before .before .before .before .mark-root .ensures ∙ ap (λ (n : ℕ). withColumn markColumn base n (onlyRoot n) work) count in ap length (l .inv .1) ∙ marked-length ns ps base start (l .p - 1) ∙ c .before .before .before .before .mark-root .kept .1 .1 .0
 
--- src/lib.rt:31:1
 returns : tie.Need-returns Inv-loop μ-loop
 returns c =
     let s = c .before .before .before .before .before .before .before .before .before .before in

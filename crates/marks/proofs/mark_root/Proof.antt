@@ -9,10 +9,6 @@ use Rattle.columns.specs.Columns.{place, markColumn, withColumn}
 use Rattle.marks.specs.Handing.{onlyRoot}
 use Rattle.marks.proofs.mark_root.Statement.{statement}
 use Rattle.marks.proofs.mark_root.Tie as tie
-use Rattle.marks.proofs.mark_root.Reads as reads
-use Rattle.marks.proofs.mark_root.Lts as lts
-use Rattle.columns.proofs.put.Reads as put-reads
-use Rattle.marks.proofs.first_mark.Reads as first-mark-reads
 
 abbrev Inv-loop : tie.InvT-loop
 Inv-loop base n work₀ i₀ work i = (i ≤ n) × (work ≡ withColumn markColumn base i (onlyRoot n) work₀)
@@ -20,7 +16,6 @@ Inv-loop base n work₀ i₀ work i = (i ≤ n) × (work ≡ withColumn markColu
 abbrev μ-loop : tie.MeasureT-loop
 μ-loop base n work₀ i₀ work i = n - i
 
--- src/lib.rt:51:5
 loop-holds : tie.Need-loop-holds Inv-loop μ-loop
 loop-holds c =
     let s = c .before in
@@ -28,7 +23,6 @@ loop-holds c =
     let n : ℕ = s .args .n in
     let work : List ℕ = s .args .work .now in (omega arith, sym (with-none markColumn base (onlyRoot n) work))
 
--- src/lib.rt:52:25
 add-put : tie.Need-add-put Inv-loop μ-loop
 add-put c =
     let s = c .before .before .before .before in
@@ -38,11 +32,9 @@ add-put c =
     let work : List ℕ = s .args .work .now in
     let kept : length (l .work) ≡ length work = ap length (l .inv .1) ∙ with-length markColumn base (l .i) (onlyRoot n) work in omega (arith, kept, s .pre)
 
--- src/lib.rt:52:35
 first-mark-requires : tie.Need-first-mark-requires Inv-loop μ-loop
 first-mark-requires c κs = search needs
 
--- src/lib.rt:52:9
 put-requires : tie.Need-put-requires Inv-loop μ-loop
 put-requires c κs =
     let s = c .before .before .before .before .before in
@@ -52,15 +44,12 @@ put-requires c κs =
     let work : List ℕ = s .args .work .now in
     let kept : length (l .work) ≡ length work = ap length (l .inv .1) ∙ with-length markColumn base (l .i) (onlyRoot n) work in omega (arith, kept, s .pre)
 
--- src/lib.rt:51:9
 add-i : tie.Need-add-i Inv-loop μ-loop
 add-i c = search needs
 
--- src/lib.rt:51:5
 loop-less : tie.Need-loop-less Inv-loop μ-loop
 loop-less c = search needs
 
--- src/lib.rt:51:5
 loop-again : tie.Need-loop-again Inv-loop μ-loop
 loop-again c =
     let s = c .before .before .before .before .before .before .before .before in
@@ -74,7 +63,6 @@ loop-again c =
           ∙ sym (with-next markColumn base i (onlyRoot n) work),
     )
 
--- src/lib.rt:47:1
 same-length : tie.Need-same-length Inv-loop μ-loop
 same-length c =
     let s = c .before .before .before in
@@ -84,7 +72,6 @@ same-length c =
     let work : List ℕ = s .args .work .now in
     let kept : length (l .work) ≡ length work = ap length (l .inv .1) ∙ with-length markColumn base (l .i) (onlyRoot n) work in kept
 
--- src/lib.rt:47:1
 returns : tie.Need-returns Inv-loop μ-loop
 returns c =
     let s = c .before .before .before in

@@ -3,24 +3,18 @@ use native.Mathlib.Omega.{arith}
 use Rattle.marks.specs.Handing.{nearer-none, nearer-first, nearer-second}
 use Rattle.marks.proofs.nearer.Statement.{statement}
 use Rattle.marks.proofs.nearer.Tie as tie
-use Rattle.marks.proofs.nearer.Reads as reads
-use Rattle.marks.proofs.nearer.Lts as lts
 
--- src/lib.rt:104:9
 returns : tie.Need-returns
 returns c = rw (c .if1 .taken)
 
--- src/lib.rt:107:9
 returns-2 : tie.Need-returns-2
 returns-2 c = rw (c .if2 .taken) (sym (nearer-none (c .before .before .args .a)))
 
--- src/lib.rt:110:9
 returns-3 : tie.Need-returns-3
 returns-3 c =
     let s = c .before .before .before in
     sym (nearer-first (s .args .a) (s .args .b) (omega arith) (omega arith))
 
--- src/lib.rt:100:1
 returns-4 : tie.Need-returns-4
 returns-4 c =
     let s = c .before .before .before in

@@ -1,55 +1,41 @@
+-- `and_of` meets its contract: by the cases of both answers; beside a failure, `zeros_or` decides.
 use borrow.Author.Needs.{needs}
 use Rattle.operators.proofs.and_of.Statement.{statement}
 use Rattle.operators.proofs.and_of.Tie as tie
-use Rattle.operators.proofs.and_of.Reads as reads
-use Rattle.operators.proofs.and_of.Lts as lts
-use Rattle.operators.proofs.zeros_or.Reads as zeros-or-reads
 
--- src/lib.rt:30:13
 enum-known-x : tie.Need-enum-known-x
 enum-known-x c = search needs
 
--- src/lib.rt:33:36
 enum-known-y : tie.Need-enum-known-y
 enum-known-y c = search needs
 
--- src/lib.rt:37:28
 enum-known-y-2 : tie.Need-enum-known-y-2
 enum-known-y-2 c = search needs
 
--- src/lib.rt:37:39
 zeros-or-requires : tie.Need-zeros-or-requires
 zeros-or-requires c κs = search needs
 
--- src/lib.rt:39:24
 enum-known-x-2 : tie.Need-enum-known-x-2
 enum-known-x-2 c = search needs
 
--- src/lib.rt:41:17
 enum-known-y-3 : tie.Need-enum-known-y-3
 enum-known-y-3 c = search needs
 
--- src/lib.rt:43:18
 zeros-or-requires-2 : tie.Need-zeros-or-requires-2
 zeros-or-requires-2 c κs = search needs
 
--- src/lib.rt:44:28
 enum-known-y-4 : tie.Need-enum-known-y-4
 enum-known-y-4 c = search needs
 
--- src/lib.rt:25:1
 returns : tie.Need-returns
 returns c = simp (c .before .before .before .before .x .given .1, c .before .y .given .1)
 
--- src/lib.rt:25:1
 returns-2 : tie.Need-returns-2
 returns-2 c = simp (c .before .before .before .before .before .x .given .1, c .before .before .y2 .given .1, c .zeros-or .ensures)
 
--- src/lib.rt:25:1
 returns-3 : tie.Need-returns-3
 returns-3 c = simp (c .before .before .before .before .before .x2 .given .1, c .before .before .y3 .given .1, c .zeros-or2 .ensures)
 
--- src/lib.rt:25:1
 returns-4 : tie.Need-returns-4
 returns-4 c = simp (c .before .before .before .before .x2 .given .1, c .before .y4 .given .1)
 

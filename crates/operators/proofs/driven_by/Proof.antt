@@ -1,3 +1,4 @@
+-- `driven_by` meets its contract: the definition's own test.
 use Rattle.meaning.specs.Rules.Answers.{undrivenByte}
 use lib.Dec.{ltb}
 use native.Mathlib.Omega.{arith}
@@ -6,16 +7,12 @@ use mathlib.Core.Bool.{true, false}
 use borrow.Author.Tests.{lt-ltb, le-ltb}
 use Rattle.operators.proofs.driven_by.Statement.{statement}
 use Rattle.operators.proofs.driven_by.Tie as tie
-use Rattle.operators.proofs.driven_by.Reads as reads
-use Rattle.operators.proofs.driven_by.Lts as lts
 
--- src/lib.rt:144:9
 returns : tie.Need-returns
 returns c =
     let s = c .before in
     let bit : ltb (s .args .byte) undrivenByte ≡ true = lt-ltb (s .args .byte) undrivenByte (omega (arith, c .if1 .taken)) in rw bit
 
--- src/lib.rt:140:1
 returns-2 : tie.Need-returns-2
 returns-2 c =
     let s = c .before in

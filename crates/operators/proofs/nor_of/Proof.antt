@@ -1,3 +1,4 @@
+-- `nor_of` meets its contract: the And of the complements, by De Morgan (`nor-is`).
 use Rattle.meaning.specs.Rules.Limits.{widestBus}
 use Rattle.meaning.specs.Rules.Answers.{andOf}
 use Rattle.operators.specs.Widths.{held, nor-is}
@@ -5,28 +6,20 @@ use mathlib.Core.Path.{ap₂, _∙_}
 use borrow.Author.Needs.{needs}
 use Rattle.operators.proofs.nor_of.Statement.{statement}
 use Rattle.operators.proofs.nor_of.Tie as tie
-use Rattle.operators.proofs.nor_of.Reads as reads
-use Rattle.operators.proofs.nor_of.Lts as lts
-use Rattle.operators.proofs.and_of.Reads as and-of-reads
-use Rattle.operators.proofs.not_of.Reads as not-of-reads
 
--- src/lib.rt:68:9
 not-of-requires : tie.Need-not-of-requires
 not-of-requires c κs =
     let s = c in
     held (s .pre .width) widestBus (s .args .x) (s .pre .narrow) (s .pre .left)
 
--- src/lib.rt:69:9
 not-of-requires-2 : tie.Need-not-of-requires-2
 not-of-requires-2 c κs =
     let s = c .before in
     held (s .pre .width) widestBus (s .args .y) (s .pre .narrow) (s .pre .right)
 
--- src/lib.rt:70:5
 and-of-requires : tie.Need-and-of-requires
 and-of-requires c κs = search needs
 
--- src/lib.rt:64:1
 returns : tie.Need-returns
 returns c =
     let s = c .before .before .before in

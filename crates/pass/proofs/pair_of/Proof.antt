@@ -1,3 +1,4 @@
+-- `pair_of` meets its contract: by mark and kind: no answer, or the answer's words.
 use mathlib.Core.Logic.{inl}
 use Rattle.meaning.specs.Claims.Pairs.{pair-none}
 use Rattle.rows.specs.Rows.{pair-logic, pair-unreached}
@@ -10,53 +11,39 @@ use native.Mathlib.Omega.{arith}
 use mathlib.Core.Path.{sym, ap, _∙_}
 use Rattle.pass.proofs.pair_of.Statement.{statement}
 use Rattle.pass.proofs.pair_of.Tie as tie
-use Rattle.pass.proofs.pair_of.Reads as reads
-use Rattle.pass.proofs.pair_of.Lts as lts
-use Rattle.answer_words.proofs.words_of.Reads as words-of-reads
-use Rattle.columns.proofs.get.Reads as get-reads
-use Rattle.nodes.proofs.kind_of.Reads as kind-of-reads
-use Rattle.steps.proofs.answer_of.Reads as answer-of-reads
 
--- src/lib.rt:54:24
 add-get : tie.Need-add-get
 add-get c =
     let s = c .before .before .before .before in
     omega (arith, (s .pre .0) .ready .room, (s .pre .1))
 
--- src/lib.rt:54:8
 get-requires : tie.Need-get-requires
 get-requires c κs =
     let s = c .before .before .before .before in
     omega (arith, (s .pre .0) .ready .room, (s .pre .1))
 
--- src/lib.rt:55:9
 returns : tie.Need-returns
 returns c =
     let s = c .before .before .before .before .before .before in
     let n = s .args .n in
     let p = pair-unreached (s .args .nodes .now) (s .args .pool .now) (given (s .args .bytes .now)) n (sym (s .pre .0 .ready .marks n (s .pre .1)) ∙ sym (c .before .get .ensures) ∙ c .if1 .taken) in (sym (p .0), sym (p .1))
 
--- src/lib.rt:60:8
 kind-of-requires : tie.Need-kind-of-requires
 kind-of-requires c κs = search needs
 
--- src/lib.rt:61:9
 returns-2 : tie.Need-returns-2
 returns-2 c =
     let s = c .before .before .before .before .before .before .before .before in
     let p = pair-none (s .args .nodes .now) (s .args .pool .now) (given (s .args .bytes .now)) (s .args .n) (inl (sym (c .before .kind-of .ensures) ∙ c .if2 .taken)) in (sym (p .0), sym (p .1))
 
--- src/lib.rt:66:26
 answer-of-requires : tie.Need-answer-of-requires
 answer-of-requires c κs =
     let s = c .before .before .before .before .before .before .before .before in
     ((s .pre .0), record { inside = (s .pre .1); marked = omega (arith, (s .pre .0) .ready .marks (s .args .n) (s .pre .1), c .before .before .before .get .ensures, c .before .before .if1 .left); noProgram = λ e. c .if2 .left (c .before .kind-of .ensures ∙ e) })
 
--- src/lib.rt:66:9
 words-of-requires : tie.Need-words-of-requires
 words-of-requires c κs = search needs
 
--- src/lib.rt:48:1
 returns-3 : tie.Need-returns-3
 returns-3 c =
     let s = c .before .before .before .before .before .before .before .before .before .before in

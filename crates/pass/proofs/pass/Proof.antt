@@ -1,3 +1,4 @@
+-- `pass` meets its contract: the loop has written the pairs below it (`withPairsTo`), and nothing else.
 use Rattle.pass.specs.Written.{withPairsTo, pairs-none, pairs-next, pairs-length, filled-to}
 use Rattle.meaning.specs.Rules.Assignments.{given}
 use Rattle.meaning.specs.Rules.Trees.{nodeCount}
@@ -8,11 +9,6 @@ use native.Mathlib.Omega.{arith}
 use mathlib.Core.Path.{_≡_, sym, ap, _∙_}
 use Rattle.pass.proofs.pass.Statement.{statement}
 use Rattle.pass.proofs.pass.Tie as tie
-use Rattle.pass.proofs.pass.Reads as reads
-use Rattle.pass.proofs.pass.Lts as lts
-use Rattle.columns.proofs.put.Reads as put-reads
-use Rattle.nodes.proofs.node_count.Reads as node-count-reads
-use Rattle.pass.proofs.pair_of.Reads as pair-of-reads
 
 abbrev Inv-loop : tie.InvT-loop
 Inv-loop nodes pool bytes base work₀ n i₀ work i =
@@ -21,68 +17,56 @@ Inv-loop nodes pool bytes base work₀ n i₀ work i =
 abbrev μ-loop : tie.MeasureT-loop
 μ-loop nodes pool bytes base work₀ n i₀ work i = n - i
 
--- src/lib.rt:43:9
 node-count-requires : tie.Need-node-count-requires Inv-loop μ-loop
 node-count-requires c κs = search needs
 
--- src/lib.rt:44:5
 loop-holds : tie.Need-loop-holds Inv-loop μ-loop
 loop-holds c =
     let s = c .before .before .before .before .before in
     (omega arith, c .node-count .ensures, sym (pairs-none (s .args .nodes .now) (s .args .pool .now) (given (s .args .bytes .now)) (s .args .base) (s .args .work .now)))
 
--- src/lib.rt:45:13
 pair-of-requires : tie.Need-pair-of-requires Inv-loop μ-loop
 pair-of-requires c κs =
     let s = c .before .before .before .before .before .before .before .before in
     let l = c .before .before .loop in
     (rw (l .inv .2) (filled-to (s .args .nodes .now) (s .args .pool .now) (given (s .args .bytes .now)) (s .args .base) (s .args .work .now) (s .pre) (l .i) (omega (arith, l .inv .1))), omega (arith, l .inv .1))
 
--- src/lib.rt:46:26
 add-put : tie.Need-add-put Inv-loop μ-loop
 add-put c = search needs
 
--- src/lib.rt:46:9
 put-requires : tie.Need-put-requires Inv-loop μ-loop
 put-requires c κs =
     let s = c .before .before .before .before .before .before .before .before .before .before in
     let l = c .before .before .before .before .loop in
     omega (arith, (ap length (l .inv .2) ∙ pairs-length (s .args .nodes .now) (s .args .pool .now) (given (s .args .bytes .now)) (s .args .base) (l .i) (s .args .work .now)), l .inv .1, (s .pre) .room)
 
--- src/lib.rt:47:26
 add-put-2 : tie.Need-add-put-2 Inv-loop μ-loop
 add-put-2 c = search needs
 
--- src/lib.rt:47:9
 put-requires-2 : tie.Need-put-requires-2 Inv-loop μ-loop
 put-requires-2 c κs =
     let s = c .before .before .before .before .before .before .before .before .before .before .before .before .before .before in
     let l = c .before .before .before .before .before .before .before .before .loop in
     omega (arith, c .before .before .before .put .kept .0, (ap length (l .inv .2) ∙ pairs-length (s .args .nodes .now) (s .args .pool .now) (given (s .args .bytes .now)) (s .args .base) (l .i) (s .args .work .now)), l .inv .1, (s .pre) .room)
 
--- src/lib.rt:44:9
 add-i : tie.Need-add-i Inv-loop μ-loop
 add-i c = search needs
 
--- src/lib.rt:44:5
 loop-less : tie.Need-loop-less Inv-loop μ-loop
 loop-less c = search needs
 
--- src/lib.rt:44:5
 loop-again : tie.Need-loop-again Inv-loop μ-loop
 loop-again c =
     let s = c .before .before .before .before .before .before .before .before .before .before .before .before .before .before .before .before .before in
     let l = c .before .before .before .before .before .before .before .before .before .before .before .loop in
     (omega arith, l .inv .1, c .before .before .put2 .ensures ∙ rw (c .before .before .before .before .before .before .put .ensures, l .inv .2) (pairs-next (s .args .nodes .now) (s .args .pool .now) (given (s .args .bytes .now)) (s .args .base) (l .i) (s .args .work .now) (c .before .before .before .before .before .before .before .before .pair-of .result .state) (c .before .before .before .before .before .before .before .before .pair-of .result .value) (c .before .before .before .before .before .before .before .before .pair-of .ensures .0) (c .before .before .before .before .before .before .before .before .pair-of .ensures .1)))
 
--- src/lib.rt:39:1
 same-length : tie.Need-same-length Inv-loop μ-loop
 same-length c =
     let s = c .before .before .before .before .before .before .before in
     let l = c .before .loop in
     (ap length (l .inv .2) ∙ pairs-length (s .args .nodes .now) (s .args .pool .now) (given (s .args .bytes .now)) (s .args .base) (l .i) (s .args .work .now))
 
--- src/lib.rt:39:1
 returns : tie.Need-returns Inv-loop μ-loop
 returns c =
     let s = c .before .before .before .before .before .before .before in

@@ -1,3 +1,4 @@
+-- `eval_rec` and its three helpers meet their contracts: each descends to a lower number, and each arm is its clause of `step`.
 use Rattle.accepted.specs.Operands.{fixed, lut-takes, bus-takes, bus-size, answers-size, held-operand, lut-operand, bus-member, nor-operands, lut-children, lut-program, mux-failed, mux-arm, arm-lt, registers}
 use Rattle.accepted.specs.Nodes.{answersAt, answer-is, children-length}
 use Rattle.operators.specs.Folds.{RowTo, row-start, row-more, row-fails, row-done, row-lt, BusTo, bus-start, bus-more, bus-done}
@@ -103,11 +104,9 @@ eval-bus-Inv-loop nodes pool bytes n count bus₀ i₀ bus i =
 abbrev eval-bus-μ-loop : eval-bus-lts.MeasureT-loop
 eval-bus-μ-loop nodes pool bytes n count bus₀ i₀ bus i = count - i
 
--- src/lib.rt:102:9
 eval-bus-count-of-requires : (t : ℕ) → eval-bus-lts.Need-count-of-requires (eval-bus-R t) (eval-bus-at t) eval-bus.Post eval-bus-Inv-loop eval-bus-μ-loop
 eval-bus-count-of-requires t c κs = (c .before .before .before .pre .1 .1 .0) .inside
 
--- src/lib.rt:104:5
 eval-bus-loop-holds : (t : ℕ) → eval-bus-lts.Need-loop-holds (eval-bus-R t) (eval-bus-at t) eval-bus.Post eval-bus-Inv-loop eval-bus-μ-loop
 eval-bus-loop-holds t c =
     let s = c .before .before .before .before in
@@ -116,20 +115,17 @@ eval-bus-loop-holds t c =
     let n = s .args .n in
     (omega arith, c .count-of .ensures .0 ∙ sym (children-length ns ps (s .pre .1 .0) n (s .pre .1 .1 .0 .inside) (omega (arith, (s .pre .1 .1 .1)))), bus-start (answersAt ns ps (given (s .args .bytes .now)) n))
 
--- src/lib.rt:105:46
 eval-bus-operand-requires : (t : ℕ) → eval-bus-lts.Need-operand-requires (eval-bus-R t) (eval-bus-at t) eval-bus.Post eval-bus-Inv-loop eval-bus-μ-loop
 eval-bus-operand-requires t c κs =
     let s = c .before .before .before .before .before .before in
     let l = c .before .loop in
     ((s .pre .1 .0), ((s .pre .1 .1 .0), bus-takes (s .args .nodes .now) (s .args .pool .now) (s .pre .1 .0) (s .args .n) (l .i) (s .pre .1 .1 .1) (omega (arith, l .inv .1))))
 
--- src/lib.rt:105:13
 eval-bus-eval-rec-requires : (t : ℕ) → eval-bus-lts.Need-eval-rec-requires (eval-bus-R t) (eval-bus-at t) eval-bus.Post eval-bus-Inv-loop eval-bus-μ-loop
 eval-bus-eval-rec-requires t c κs =
     let s = c .before .before .before .before .before .before .before in
     (omega (arith, s .pre .0, c .operand .ensures .below), ((s .pre .1 .0), c .operand .ensures .logic))
 
--- src/lib.rt:106:9
 eval-bus-bus-step-requires : (t : ℕ) → eval-bus-lts.Need-bus-step-requires (eval-bus-R t) (eval-bus-at t) eval-bus.Post eval-bus-Inv-loop eval-bus-μ-loop
 eval-bus-bus-step-requires t c κs =
     let s = c .before .before .before .before .before .before .before .before in
@@ -140,15 +136,12 @@ eval-bus-bus-step-requires t c κs =
     let l = c .before .before .before .loop in
     (held-more (l .i) 63 (l .bus) (omega (arith, l .inv .1, bus-size ns ps (s .pre .1 .0) n (s .pre .1 .1 .0 .inside) (s .pre .1 .1 .1))) (l .inv .2 .narrow), rw (c .eval-rec .ensures ∙ c .before .operand .ensures .read α) (bus-member ns ps (s .pre .1 .0) n (s .pre .1 .1 .0) α (l .i) (s .pre .1 .1 .1) (omega (arith, l .inv .1))))
 
--- src/lib.rt:104:9
 eval-bus-add-i : (t : ℕ) → eval-bus-lts.Need-add-i (eval-bus-R t) (eval-bus-at t) eval-bus.Post eval-bus-Inv-loop eval-bus-μ-loop
 eval-bus-add-i t c = search needs
 
--- src/lib.rt:104:5
 eval-bus-loop-less : (t : ℕ) → eval-bus-lts.Need-loop-less (eval-bus-R t) (eval-bus-at t) eval-bus.Post eval-bus-Inv-loop eval-bus-μ-loop
 eval-bus-loop-less t c = search needs
 
--- src/lib.rt:104:5
 eval-bus-loop-again : (t : ℕ) → eval-bus-lts.Need-loop-again (eval-bus-R t) (eval-bus-at t) eval-bus.Post eval-bus-Inv-loop eval-bus-μ-loop
 eval-bus-loop-again t c =
     let s = c .before .before .before .before .before .before .before .before .before in
@@ -159,7 +152,6 @@ eval-bus-loop-again t c =
     let l = c .before .before .before .before .loop in
     (omega arith, l .inv .1, bus-more (answersAt ns ps α n) (l .i) (l .bus) (c .bus-step .result) (c .before .eval-rec .result) (rw (answers-size ns ps (s .pre .1 .0) n α) (omega (arith, l .inv .1))) (l .inv .2) (c .before .eval-rec .ensures ∙ c .before .before .operand .ensures .read α) (rw (c .before .eval-rec .ensures ∙ c .before .before .operand .ensures .read α) (bus-member ns ps (s .pre .1 .0) n (s .pre .1 .1 .0) α (l .i) (s .pre .1 .1 .1) (omega (arith, l .inv .1)))) (c .bus-step .ensures))
 
--- src/lib.rt:96:1
 eval-bus-returns : (t : ℕ) → eval-bus-lts.Need-returns (eval-bus-R t) (eval-bus-at t) eval-bus.Post eval-bus-Inv-loop eval-bus-μ-loop
 eval-bus-returns t c =
     let s = c .before .before .before .before .before .before in
@@ -177,11 +169,9 @@ eval-lut-Inv-loop nodes pool bytes n count row₀ i₀ row i =
 abbrev eval-lut-μ-loop : eval-lut-lts.MeasureT-loop
 eval-lut-μ-loop nodes pool bytes n count row₀ i₀ row i = count - i
 
--- src/lib.rt:83:9
 eval-lut-count-of-requires : (t : ℕ) → eval-lut-lts.Need-count-of-requires (eval-lut-R t) (eval-lut-at t) eval-lut.Post eval-lut-Inv-loop eval-lut-μ-loop
 eval-lut-count-of-requires t c κs = (c .before .before .before .pre .1 .1 .0) .inside
 
--- src/lib.rt:85:5
 eval-lut-loop-holds : (t : ℕ) → eval-lut-lts.Need-loop-holds (eval-lut-R t) (eval-lut-at t) eval-lut.Post eval-lut-Inv-loop eval-lut-μ-loop
 eval-lut-loop-holds t c =
     let s = c .before .before .before .before in
@@ -190,28 +180,23 @@ eval-lut-loop-holds t c =
     let n = s .args .n in
     let e = c .count-of .ensures .0 ∙ sym (children-length ns ps (s .pre .1 .0) n (s .pre .1 .1 .0 .inside) (omega (arith, (s .pre .1 .1 .1)))) in (omega arith, omega (arith, e, lut-children ns ps (s .pre .1 .0) n (s .pre .1 .1 .0) (s .pre .1 .1 .1) .some), e, row-start (answersAt ns ps (given (s .args .bytes .now)) n))
 
--- src/lib.rt:86:46
 eval-lut-operand-requires : (t : ℕ) → eval-lut-lts.Need-operand-requires (eval-lut-R t) (eval-lut-at t) eval-lut.Post eval-lut-Inv-loop eval-lut-μ-loop
 eval-lut-operand-requires t c κs =
     let s = c .before .before .before .before .before .before in
     let l = c .before .loop in
     ((s .pre .1 .0), ((s .pre .1 .1 .0), lut-takes (s .args .nodes .now) (s .args .pool .now) (s .pre .1 .0) (s .args .n) (l .i) (s .pre .1 .1 .1) (l .inv .0) (omega (arith, l .inv .2))))
 
--- src/lib.rt:86:13
 eval-lut-eval-rec-requires : (t : ℕ) → eval-lut-lts.Need-eval-rec-requires (eval-lut-R t) (eval-lut-at t) eval-lut.Post eval-lut-Inv-loop eval-lut-μ-loop
 eval-lut-eval-rec-requires t c κs =
     let s = c .before .before .before .before .before .before .before in
     (omega (arith, s .pre .0, c .operand .ensures .below), ((s .pre .1 .0), c .operand .ensures .logic))
 
--- src/lib.rt:87:36
 eval-lut-enum-known-x : (t : ℕ) → eval-lut-lts.Need-enum-known-x (eval-lut-R t) (eval-lut-at t) eval-lut.Post eval-lut-Inv-loop eval-lut-μ-loop
 eval-lut-enum-known-x t c = search needs
 
--- src/lib.rt:88:13
 eval-lut-enum-told : (t : ℕ) → eval-lut-lts.Need-enum-told (eval-lut-R t) (eval-lut-at t) eval-lut.Post eval-lut-Inv-loop eval-lut-μ-loop
 eval-lut-enum-told t c = search needs
 
--- src/lib.rt:88:13
 eval-lut-returns : (t : ℕ) → eval-lut-lts.Need-returns (eval-lut-R t) (eval-lut-at t) eval-lut.Post eval-lut-Inv-loop eval-lut-μ-loop
 eval-lut-returns t c =
     let s = c .before .before .before .before .before .before .before .before .before .before in
@@ -223,7 +208,6 @@ eval-lut-returns t c =
     let l = c .before .before .before .before .before .loop in
     row-fails xs (valueOf (nth xs 0)) (l .i) (l .row) (c .before .before .eval-rec .result) _ (rw (answers-size ns ps (s .pre .1 .0) n α) (omega (arith, l .inv .2))) (l .inv .3) (c .before .before .eval-rec .ensures ∙ c .before .before .before .operand .ensures .read α) (c .enum-told .given .1) ∙ sym (answer-is ns ps (s .pre .1 .0) n (s .pre .1 .1 .0 .inside) α 9 (s .pre .1 .1 .1))
 
--- src/lib.rt:90:15
 eval-lut-mul-row : (t : ℕ) → eval-lut-lts.Need-mul-row (eval-lut-R t) (eval-lut-at t) eval-lut.Post eval-lut-Inv-loop eval-lut-μ-loop
 eval-lut-mul-row t c =
     let s = c .before .before .before .before .before .before .before .before .before .before .before in
@@ -233,7 +217,6 @@ eval-lut-mul-row t c =
     let l = c .before .before .before .before .before .before .loop in
     omega (arith, row-lt (answersAt ns ps (given (s .args .bytes .now)) n) (l .i) (l .row) (omega (arith, l .inv .1, l .inv .2, lut-children ns ps (s .pre .1 .0) n (s .pre .1 .1 .0) (s .pre .1 .1 .1) .few)) (l .inv .3))
 
--- src/lib.rt:90:15
 eval-lut-add-row : (t : ℕ) → eval-lut-lts.Need-add-row (eval-lut-R t) (eval-lut-at t) eval-lut.Post eval-lut-Inv-loop eval-lut-μ-loop
 eval-lut-add-row t c =
     let s = c .before .before .before .before .before .before .before .before .before .before .before in
@@ -244,15 +227,12 @@ eval-lut-add-row t c =
     let l = c .before .before .before .before .before .before .loop in
     omega (arith, row-lt (answersAt ns ps α n) (l .i) (l .row) (omega (arith, l .inv .1, l .inv .2, lut-children ns ps (s .pre .1 .0) n (s .pre .1 .1 .0) (s .pre .1 .1 .1) .few)) (l .inv .3), held-lt 1 _ _ (c .before .before .before .eval-rec .result) (rw (c .before .before .before .eval-rec .ensures ∙ c .before .before .before .before .operand .ensures .read α) (lut-operand ns ps (s .pre .1 .0) n (s .pre .1 .1 .0) α (l .i) (s .pre .1 .1 .1) (l .inv .0) (omega (arith, l .inv .2)))) (c .before .x .given .1))
 
--- src/lib.rt:85:9
 eval-lut-add-i : (t : ℕ) → eval-lut-lts.Need-add-i (eval-lut-R t) (eval-lut-at t) eval-lut.Post eval-lut-Inv-loop eval-lut-μ-loop
 eval-lut-add-i t c = search needs
 
--- src/lib.rt:85:5
 eval-lut-loop-less : (t : ℕ) → eval-lut-lts.Need-loop-less (eval-lut-R t) (eval-lut-at t) eval-lut.Post eval-lut-Inv-loop eval-lut-μ-loop
 eval-lut-loop-less t c = search needs
 
--- src/lib.rt:85:5
 eval-lut-loop-again : (t : ℕ) → eval-lut-lts.Need-loop-again (eval-lut-R t) (eval-lut-at t) eval-lut.Post eval-lut-Inv-loop eval-lut-μ-loop
 eval-lut-loop-again t c =
     let s = c .before .before .before .before .before .before .before .before .before .before .before in
@@ -263,13 +243,11 @@ eval-lut-loop-again t c =
     let l = c .before .before .before .before .before .before .loop in
     (omega arith, omega arith, l .inv .2, row-more (answersAt ns ps α n) (l .i) (l .row) _ _ (c .before .before .before .eval-rec .result) (omega (arith, l .inv .0)) (rw (answers-size ns ps (s .pre .1 .0) n α) (omega (arith, l .inv .2))) (l .inv .3) (c .before .before .before .eval-rec .ensures ∙ c .before .before .before .before .operand .ensures .read α) (rw (c .before .before .before .eval-rec .ensures ∙ c .before .before .before .before .operand .ensures .read α) (lut-operand ns ps (s .pre .1 .0) n (s .pre .1 .1 .0) α (l .i) (s .pre .1 .1 .1) (l .inv .0) (omega (arith, l .inv .2)))) (c .before .x .given .1))
 
--- src/lib.rt:92:13
 eval-lut-program-of-requires : (t : ℕ) → eval-lut-lts.Need-program-of-requires (eval-lut-R t) (eval-lut-at t) eval-lut.Post eval-lut-Inv-loop eval-lut-μ-loop
 eval-lut-program-of-requires t c κs =
     let s = c .before .before .before .before .before .before in
     ((s .pre .1 .0), ((s .pre .1 .1 .0), (s .pre .1 .1 .1)))
 
--- src/lib.rt:92:5
 eval-lut-row-bit-requires : (t : ℕ) → eval-lut-lts.Need-row-bit-requires (eval-lut-R t) (eval-lut-at t) eval-lut.Post eval-lut-Inv-loop eval-lut-μ-loop
 eval-lut-row-bit-requires t c κs =
     let s = c .before .before .before .before .before .before .before in
@@ -279,7 +257,6 @@ eval-lut-row-bit-requires t c κs =
     let l = c .before .before .loop in
     row-lt (answersAt ns ps (given (s .args .bytes .now)) n) (l .i) (l .row) (omega (arith, l .inv .1, l .inv .2, lut-children ns ps (s .pre .1 .0) n (s .pre .1 .1 .0) (s .pre .1 .1 .1) .few)) (l .inv .3)
 
--- src/lib.rt:77:1
 eval-lut-returns-2 : (t : ℕ) → eval-lut-lts.Need-returns-2 (eval-lut-R t) (eval-lut-at t) eval-lut.Post eval-lut-Inv-loop eval-lut-μ-loop
 eval-lut-returns-2 t c =
     let s = c .before .before .before .before .before .before .before .before in
@@ -291,27 +268,22 @@ eval-lut-returns-2 t c =
     let l = c .before .before .before .loop in
     row-done xs (valueOf (nth xs 0)) (l .i) (l .row) (c .row-bit .result) (rw (answers-size ns ps (s .pre .1 .0) n α) (omega (arith, l .inv .2))) (l .inv .3) (rw (lut-program ns ps (s .pre .1 .0) n (s .pre .1 .1 .0) α (s .pre .1 .1 .1), ← (c .before .program-of .ensures)) (c .row-bit .ensures)) ∙ sym (answer-is ns ps (s .pre .1 .0) n (s .pre .1 .1 .0 .inside) α 9 (s .pre .1 .1 .1))
 
--- src/lib.rt:69:49
 eval-mux-operand-requires : (t : ℕ) → eval-mux-lts.Need-operand-requires (eval-mux-R t) (eval-mux-at t) eval-mux.Post
 eval-mux-operand-requires t c κs =
     let s = c .before .before .before in
     ((s .pre .1 .0), ((s .pre .1 .1 .0), fixed (s .args .nodes .now) (s .args .pool .now) (s .pre .1 .0) (s .args .n) (s .pre .1 .1 .0 .inside) 5 3 0 (s .pre .1 .1 .1) (λ c. refl) refl (lit< tt)))
 
--- src/lib.rt:69:9
 eval-mux-eval-rec-requires : (t : ℕ) → eval-mux-lts.Need-eval-rec-requires (eval-mux-R t) (eval-mux-at t) eval-mux.Post
 eval-mux-eval-rec-requires t c κs =
     let s = c .before .before .before .before in
     (omega (arith, s .pre .0, c .operand .ensures .below), ((s .pre .1 .0), c .operand .ensures .logic))
 
--- src/lib.rt:70:25
 eval-mux-enum-known-selector : (t : ℕ) → eval-mux-lts.Need-enum-known-selector (eval-mux-R t) (eval-mux-at t) eval-mux.Post
 eval-mux-enum-known-selector t c = search needs
 
--- src/lib.rt:71:9
 eval-mux-enum-told : (t : ℕ) → eval-mux-lts.Need-enum-told (eval-mux-R t) (eval-mux-at t) eval-mux.Post
 eval-mux-enum-told t c = search needs
 
--- src/lib.rt:71:9
 eval-mux-returns : (t : ℕ) → eval-mux-lts.Need-returns (eval-mux-R t) (eval-mux-at t) eval-mux.Post
 eval-mux-returns t c =
     let s = c .before .before .before .before .before .before .before in
@@ -322,23 +294,19 @@ eval-mux-returns t c =
     let xs = answersAt ns ps α n in
     mux-failed _ (nth xs 1) (nth xs 2) _ (c .enum-told .given .1) ∙ ap (λ (s : Answer). muxOf s (nth xs 1) (nth xs 2)) (c .before .before .eval-rec .ensures ∙ c .before .before .before .operand .ensures .read α) ∙ sym (answer-is ns ps (s .pre .1 .0) n (s .pre .1 .1 .0 .inside) α 5 (s .pre .1 .1 .1))
 
--- src/lib.rt:73:58
 eval-mux-arm-of-requires : (t : ℕ) → eval-mux-lts.Need-arm-of-requires (eval-mux-R t) (eval-mux-at t) eval-mux.Post
 eval-mux-arm-of-requires t c κs = search needs
 
--- src/lib.rt:73:34
 eval-mux-operand-requires-2 : (t : ℕ) → eval-mux-lts.Need-operand-requires-2 (eval-mux-R t) (eval-mux-at t) eval-mux.Post
 eval-mux-operand-requires-2 t c κs =
     let s = c .before .before .before .before .before .before .before .before .before in
     let l = arm-lt (c .before .before .selector .given .0 .1 .0) (c .arm-of .result) (c .arm-of .ensures) in ((s .pre .1 .0), ((s .pre .1 .1 .0), fixed (s .args .nodes .now) (s .args .pool .now) (s .pre .1 .0) (s .args .n) (s .pre .1 .1 .0 .inside) 5 3 (c .arm-of .result) (s .pre .1 .1 .1) (λ c. refl) (lt-ltb (c .arm-of .result) 3 l) l))
 
--- src/lib.rt:73:5
 eval-mux-eval-rec-requires-2 : (t : ℕ) → eval-mux-lts.Need-eval-rec-requires-2 (eval-mux-R t) (eval-mux-at t) eval-mux.Post
 eval-mux-eval-rec-requires-2 t c κs =
     let s = c .before .before .before .before .before .before .before .before .before .before in
     (omega (arith, s .pre .0, c .operand2 .ensures .below), ((s .pre .1 .0), c .operand2 .ensures .logic))
 
--- src/lib.rt:63:1
 eval-mux-returns-2 : (t : ℕ) → eval-mux-lts.Need-returns-2 (eval-mux-R t) (eval-mux-at t) eval-mux.Post
 eval-mux-returns-2 t c =
     let s = c .before .before .before .before .before .before .before .before .before .before .before in
@@ -349,116 +317,96 @@ eval-mux-returns-2 t c =
     let xs = answersAt ns ps α n in
     c .eval-rec2 .ensures ∙ c .before .operand2 .ensures .read α ∙ ap (nth xs) (c .before .before .arm-of .ensures) ∙ mux-arm xs _ _ _ (c .before .before .before .before .selector .given .1) ∙ ap (λ (s : Answer). muxOf s (nth xs 1) (nth xs 2)) (c .before .before .before .before .before .before .eval-rec .ensures ∙ c .before .before .before .before .before .before .before .operand .ensures .read α) ∙ sym (answer-is ns ps (s .pre .1 .0) n (s .pre .1 .1 .0 .inside) α 5 (s .pre .1 .1 .1))
 
--- src/lib.rt:34:9
 eval-rec-kind-of-requires : (t : ℕ) → eval-rec-lts.Need-kind-of-requires (eval-rec-R t) (eval-rec-at t) eval-rec.Post
 eval-rec-kind-of-requires t c κs = search needs
 
--- src/lib.rt:38:50
 eval-rec-operand-requires : (t : ℕ) → eval-rec-lts.Need-operand-requires (eval-rec-R t) (eval-rec-at t) eval-rec.Post
 eval-rec-operand-requires t c κs =
     let s = c .before .before .before .before .before in
     ((s .pre .1 .0), ((s .pre .1 .1), fixed (s .args .nodes .now) (s .args .pool .now) (s .pre .1 .0) (s .args .n) (s .pre .1 .1 .inside) 4 2 0 (sym (c .before .kind-of .ensures) ∙ c .match .keys1) (λ c. refl) refl (lit< tt)))
 
--- src/lib.rt:38:17
 eval-rec-eval-rec-requires : (t : ℕ) → eval-rec-lts.Need-eval-rec-requires (eval-rec-R t) (eval-rec-at t) eval-rec.Post
 eval-rec-eval-rec-requires t c κs =
     let s = c .before .before .before .before .before .before in
     (omega (arith, s .pre .0, c .operand .ensures .below), ((s .pre .1 .0), c .operand .ensures .logic))
 
--- src/lib.rt:39:50
 eval-rec-operand-requires-2 : (t : ℕ) → eval-rec-lts.Need-operand-requires-2 (eval-rec-R t) (eval-rec-at t) eval-rec.Post
 eval-rec-operand-requires-2 t c κs =
     let s = c .before .before .before .before .before .before .before in
     ((s .pre .1 .0), ((s .pre .1 .1), fixed (s .args .nodes .now) (s .args .pool .now) (s .pre .1 .0) (s .args .n) (s .pre .1 .1 .inside) 4 2 1 (sym (c .before .before .before .kind-of .ensures) ∙ c .before .before .match .keys1) (λ c. refl) refl (lit< tt)))
 
--- src/lib.rt:39:17
 eval-rec-eval-rec-requires-2 : (t : ℕ) → eval-rec-lts.Need-eval-rec-requires-2 (eval-rec-R t) (eval-rec-at t) eval-rec.Post
 eval-rec-eval-rec-requires-2 t c κs =
     let s = c .before .before .before .before .before .before .before .before in
     (omega (arith, s .pre .0, c .operand2 .ensures .below), ((s .pre .1 .0), c .operand2 .ensures .logic))
 
--- src/lib.rt:40:13
 eval-rec-nor-of-requires : (t : ℕ) → eval-rec-lts.Need-nor-of-requires (eval-rec-R t) (eval-rec-at t) eval-rec.Post
 eval-rec-nor-of-requires t c κs =
     let s = c .before .before .before .before .before .before .before .before .before in
     let α = given (s .args .bytes .now) in
     rw ((c .before .before .eval-rec .ensures ∙ c .before .before .before .operand .ensures .read α), (c .eval-rec2 .ensures ∙ c .before .operand2 .ensures .read α)) (nor-operands (s .args .nodes .now) (s .args .pool .now) (s .pre .1 .0) (s .args .n) (s .pre .1 .1) α (rw (sym (c .before .before .before .before .before .kind-of .ensures) ∙ c .before .before .before .before .match .keys1)))
 
--- src/lib.rt:42:14
 eval-rec-eval-mux-requires : (t : ℕ) → eval-rec-lts.Need-eval-mux-requires (eval-rec-R t) (eval-rec-at t) eval-rec.Post
 eval-rec-eval-mux-requires t c κs =
     let s = c .before .before .before .before .before in
     (omega (arith, s .pre .0), ((s .pre .1 .0), ((s .pre .1 .1), (sym (c .before .kind-of .ensures) ∙ c .match .keys2))))
 
--- src/lib.rt:44:50
 eval-rec-operand-requires-3 : (t : ℕ) → eval-rec-lts.Need-operand-requires-3 (eval-rec-R t) (eval-rec-at t) eval-rec.Post
 eval-rec-operand-requires-3 t c κs =
     let s = c .before .before .before .before .before in
     ((s .pre .1 .0), ((s .pre .1 .1), fixed (s .args .nodes .now) (s .args .pool .now) (s .pre .1 .0) (s .args .n) (s .pre .1 .1 .inside) 6 2 0 (sym (c .before .kind-of .ensures) ∙ c .match .keys3) (λ c. refl) refl (lit< tt)))
 
--- src/lib.rt:44:17
 eval-rec-eval-rec-requires-3 : (t : ℕ) → eval-rec-lts.Need-eval-rec-requires-3 (eval-rec-R t) (eval-rec-at t) eval-rec.Post
 eval-rec-eval-rec-requires-3 t c κs =
     let s = c .before .before .before .before .before .before in
     (omega (arith, s .pre .0, c .operand3 .ensures .below), ((s .pre .1 .0), c .operand3 .ensures .logic))
 
--- src/lib.rt:45:50
 eval-rec-operand-requires-4 : (t : ℕ) → eval-rec-lts.Need-operand-requires-4 (eval-rec-R t) (eval-rec-at t) eval-rec.Post
 eval-rec-operand-requires-4 t c κs =
     let s = c .before .before .before .before .before .before .before in
     ((s .pre .1 .0), ((s .pre .1 .1), fixed (s .args .nodes .now) (s .args .pool .now) (s .pre .1 .0) (s .args .n) (s .pre .1 .1 .inside) 6 2 1 (sym (c .before .before .before .kind-of .ensures) ∙ c .before .before .match .keys3) (λ c. refl) refl (lit< tt)))
 
--- src/lib.rt:45:17
 eval-rec-eval-rec-requires-4 : (t : ℕ) → eval-rec-lts.Need-eval-rec-requires-4 (eval-rec-R t) (eval-rec-at t) eval-rec.Post
 eval-rec-eval-rec-requires-4 t c κs =
     let s = c .before .before .before .before .before .before .before .before in
     (omega (arith, s .pre .0, c .operand4 .ensures .below), ((s .pre .1 .0), c .operand4 .ensures .logic))
 
--- src/lib.rt:46:13
 eval-rec-and-of-requires : (t : ℕ) → eval-rec-lts.Need-and-of-requires (eval-rec-R t) (eval-rec-at t) eval-rec.Post
 eval-rec-and-of-requires t c κs = search needs
 
--- src/lib.rt:49:50
 eval-rec-operand-requires-5 : (t : ℕ) → eval-rec-lts.Need-operand-requires-5 (eval-rec-R t) (eval-rec-at t) eval-rec.Post
 eval-rec-operand-requires-5 t c κs =
     let s = c .before .before .before .before .before in
     ((s .pre .1 .0), ((s .pre .1 .1), fixed (s .args .nodes .now) (s .args .pool .now) (s .pre .1 .0) (s .args .n) (s .pre .1 .1 .inside) 7 2 0 (sym (c .before .kind-of .ensures) ∙ c .match .keys4) (λ c. refl) refl (lit< tt)))
 
--- src/lib.rt:49:17
 eval-rec-eval-rec-requires-5 : (t : ℕ) → eval-rec-lts.Need-eval-rec-requires-5 (eval-rec-R t) (eval-rec-at t) eval-rec.Post
 eval-rec-eval-rec-requires-5 t c κs =
     let s = c .before .before .before .before .before .before in
     (omega (arith, s .pre .0, c .operand5 .ensures .below), ((s .pre .1 .0), c .operand5 .ensures .logic))
 
--- src/lib.rt:50:50
 eval-rec-operand-requires-6 : (t : ℕ) → eval-rec-lts.Need-operand-requires-6 (eval-rec-R t) (eval-rec-at t) eval-rec.Post
 eval-rec-operand-requires-6 t c κs =
     let s = c .before .before .before .before .before .before .before in
     ((s .pre .1 .0), ((s .pre .1 .1), fixed (s .args .nodes .now) (s .args .pool .now) (s .pre .1 .0) (s .args .n) (s .pre .1 .1 .inside) 7 2 1 (sym (c .before .before .before .kind-of .ensures) ∙ c .before .before .match .keys4) (λ c. refl) refl (lit< tt)))
 
--- src/lib.rt:50:17
 eval-rec-eval-rec-requires-6 : (t : ℕ) → eval-rec-lts.Need-eval-rec-requires-6 (eval-rec-R t) (eval-rec-at t) eval-rec.Post
 eval-rec-eval-rec-requires-6 t c κs =
     let s = c .before .before .before .before .before .before .before .before in
     (omega (arith, s .pre .0, c .operand6 .ensures .below), ((s .pre .1 .0), c .operand6 .ensures .logic))
 
--- src/lib.rt:51:13
 eval-rec-xor-of-requires : (t : ℕ) → eval-rec-lts.Need-xor-of-requires (eval-rec-R t) (eval-rec-at t) eval-rec.Post
 eval-rec-xor-of-requires t c κs = search needs
 
--- src/lib.rt:53:50
 eval-rec-operand-requires-7 : (t : ℕ) → eval-rec-lts.Need-operand-requires-7 (eval-rec-R t) (eval-rec-at t) eval-rec.Post
 eval-rec-operand-requires-7 t c κs =
     let s = c .before .before .before .before .before in
     ((s .pre .1 .0), ((s .pre .1 .1), fixed (s .args .nodes .now) (s .args .pool .now) (s .pre .1 .0) (s .args .n) (s .pre .1 .1 .inside) 8 1 0 (sym (c .before .kind-of .ensures) ∙ c .match .keys5) (λ c. refl) refl (lit< tt)))
 
--- src/lib.rt:53:21
 eval-rec-eval-rec-requires-7 : (t : ℕ) → eval-rec-lts.Need-eval-rec-requires-7 (eval-rec-R t) (eval-rec-at t) eval-rec.Post
 eval-rec-eval-rec-requires-7 t c κs =
     let s = c .before .before .before .before .before .before in
     (omega (arith, s .pre .0, c .operand7 .ensures .below), ((s .pre .1 .0), c .operand7 .ensures .logic))
 
--- src/lib.rt:53:14
 eval-rec-not-of-requires : (t : ℕ) → eval-rec-lts.Need-not-of-requires (eval-rec-R t) (eval-rec-at t) eval-rec.Post
 eval-rec-not-of-requires t c κs =
     let s = c .before .before .before .before .before .before .before in
@@ -468,25 +416,21 @@ eval-rec-not-of-requires t c κs =
     let n = s .args .n in
     rw (c .eval-rec7 .ensures ∙ c .before .operand7 .ensures .read α) (held-operand ns ps (s .pre .1 .0) n (s .pre .1 .1) α 0 (fixed ns ps (s .pre .1 .0) n (s .pre .1 .1 .inside) 8 1 0 (sym (c .before .before .before .kind-of .ensures) ∙ c .before .before .match .keys5) (λ c. refl) refl (lit< tt)))
 
--- src/lib.rt:54:14
 eval-rec-eval-lut-requires : (t : ℕ) → eval-rec-lts.Need-eval-lut-requires (eval-rec-R t) (eval-rec-at t) eval-rec.Post
 eval-rec-eval-lut-requires t c κs =
     let s = c .before .before .before .before .before in
     (omega (arith, s .pre .0), ((s .pre .1 .0), ((s .pre .1 .1), (sym (c .before .kind-of .ensures) ∙ c .match .keys6))))
 
--- src/lib.rt:55:15
 eval-rec-eval-bus-requires : (t : ℕ) → eval-rec-lts.Need-eval-bus-requires (eval-rec-R t) (eval-rec-at t) eval-rec.Post
 eval-rec-eval-bus-requires t c κs =
     let s = c .before .before .before .before .before in
     (omega (arith, s .pre .0), ((s .pre .1 .0), ((s .pre .1 .1), (sym (c .before .kind-of .ensures) ∙ c .match .keys7))))
 
--- src/lib.rt:36:18
 eval-rec-leaf-of-requires : (t : ℕ) → eval-rec-lts.Need-leaf-of-requires (eval-rec-R t) (eval-rec-at t) eval-rec.Post
 eval-rec-leaf-of-requires t c κs =
     let s = c .before .before .before .before .before .before in
     (s .pre .1 .1 .inside, (omega (arith, c .before .before .kind-of .ensures, c .if1 .taken), (s .pre .1 .1) .noProgram))
 
--- src/lib.rt:58:43
 eval-rec-operand-requires-8 : (t : ℕ) → eval-rec-lts.Need-operand-requires-8 (eval-rec-R t) (eval-rec-at t) eval-rec.Post
 eval-rec-operand-requires-8 t c κs =
     let s = c .before .before .before .before .before .before .before in
@@ -494,59 +438,49 @@ eval-rec-operand-requires-8 t c κs =
     let n = s .args .n in
     let e : kindAt ns n ≡ 16 = omega (arith, c .before .before .before .kind-of .ensures, c .if2 .left, c .before .before .match .rest .1, (s .pre .1 .0) .0 n (s .pre .1 .1 .inside) .0) in ((s .pre .1 .0), ((s .pre .1 .1), fixed ns (s .args .pool .now) (s .pre .1 .0) n (s .pre .1 .1 .inside) 16 1 0 e (λ c. refl) refl (lit< tt)))
 
--- src/lib.rt:58:14
 eval-rec-eval-rec-requires-8 : (t : ℕ) → eval-rec-lts.Need-eval-rec-requires-8 (eval-rec-R t) (eval-rec-at t) eval-rec.Post
 eval-rec-eval-rec-requires-8 t c κs =
     let s = c .before .before .before .before .before .before .before .before in
     (omega (arith, s .pre .0, c .operand8 .ensures .below), ((s .pre .1 .0), c .operand8 .ensures .logic))
 
--- src/lib.rt:29:1
 eval-rec-returns : (t : ℕ) → eval-rec-lts.Need-returns (eval-rec-R t) (eval-rec-at t) eval-rec.Post
 eval-rec-returns t c =
     let s = c .before .before .before .before .before .before .before .before .before .before in
     let α = given (s .args .bytes .now) in
     c .nor-of .ensures ∙ ap₂ norOf (c .before .before .before .eval-rec .ensures ∙ c .before .before .before .before .operand .ensures .read α) (c .before .eval-rec2 .ensures ∙ c .before .before .operand2 .ensures .read α) ∙ sym (answer-is (s .args .nodes .now) (s .args .pool .now) (s .pre .1 .0) (s .args .n) (s .pre .1 .1 .inside) α 4 (sym (c .before .before .before .before .before .before .kind-of .ensures) ∙ c .before .before .before .before .before .match .keys1))
 
--- src/lib.rt:29:1
 eval-rec-returns-2 : (t : ℕ) → eval-rec-lts.Need-returns-2 (eval-rec-R t) (eval-rec-at t) eval-rec.Post
 eval-rec-returns-2 t c = c .eval-mux .ensures
 
--- src/lib.rt:29:1
 eval-rec-returns-3 : (t : ℕ) → eval-rec-lts.Need-returns-3 (eval-rec-R t) (eval-rec-at t) eval-rec.Post
 eval-rec-returns-3 t c =
     let s = c .before .before .before .before .before .before .before .before .before .before in
     let α = given (s .args .bytes .now) in
     c .and-of .ensures ∙ ap₂ andOf (c .before .before .before .eval-rec3 .ensures ∙ c .before .before .before .before .operand3 .ensures .read α) (c .before .eval-rec4 .ensures ∙ c .before .before .operand4 .ensures .read α) ∙ sym (answer-is (s .args .nodes .now) (s .args .pool .now) (s .pre .1 .0) (s .args .n) (s .pre .1 .1 .inside) α 6 (sym (c .before .before .before .before .before .before .kind-of .ensures) ∙ c .before .before .before .before .before .match .keys3))
 
--- src/lib.rt:29:1
 eval-rec-returns-4 : (t : ℕ) → eval-rec-lts.Need-returns-4 (eval-rec-R t) (eval-rec-at t) eval-rec.Post
 eval-rec-returns-4 t c =
     let s = c .before .before .before .before .before .before .before .before .before .before in
     let α = given (s .args .bytes .now) in
     c .xor-of .ensures ∙ ap₂ xorOf (c .before .before .before .eval-rec5 .ensures ∙ c .before .before .before .before .operand5 .ensures .read α) (c .before .eval-rec6 .ensures ∙ c .before .before .operand6 .ensures .read α) ∙ sym (answer-is (s .args .nodes .now) (s .args .pool .now) (s .pre .1 .0) (s .args .n) (s .pre .1 .1 .inside) α 7 (sym (c .before .before .before .before .before .before .kind-of .ensures) ∙ c .before .before .before .before .before .match .keys4))
 
--- src/lib.rt:29:1
 eval-rec-returns-5 : (t : ℕ) → eval-rec-lts.Need-returns-5 (eval-rec-R t) (eval-rec-at t) eval-rec.Post
 eval-rec-returns-5 t c =
     let s = c .before .before .before .before .before .before .before .before in
     let α = given (s .args .bytes .now) in
     c .not-of .ensures ∙ ap notOf (c .before .eval-rec7 .ensures ∙ c .before .before .operand7 .ensures .read α) ∙ sym (answer-is (s .args .nodes .now) (s .args .pool .now) (s .pre .1 .0) (s .args .n) (s .pre .1 .1 .inside) α 8 (sym (c .before .before .before .before .kind-of .ensures) ∙ c .before .before .before .match .keys5))
 
--- src/lib.rt:29:1
 eval-rec-returns-6 : (t : ℕ) → eval-rec-lts.Need-returns-6 (eval-rec-R t) (eval-rec-at t) eval-rec.Post
 eval-rec-returns-6 t c = c .eval-lut .ensures
 
--- src/lib.rt:29:1
 eval-rec-returns-7 : (t : ℕ) → eval-rec-lts.Need-returns-7 (eval-rec-R t) (eval-rec-at t) eval-rec.Post
 eval-rec-returns-7 t c = c .eval-bus .ensures
 
--- src/lib.rt:29:1
 eval-rec-returns-8 : (t : ℕ) → eval-rec-lts.Need-returns-8 (eval-rec-R t) (eval-rec-at t) eval-rec.Post
 eval-rec-returns-8 t c =
     let s = c .before .before .before .before .before in
     sym (answer-is (s .args .nodes .now) (s .args .pool .now) (s .pre .1 .0) (s .args .n) (s .pre .1 .1 .inside) (given (s .args .bytes .now)) 15 (sym (c .before .kind-of .ensures) ∙ c .match .keys8))
 
--- src/lib.rt:29:1
 eval-rec-returns-9 : (t : ℕ) → eval-rec-lts.Need-returns-9 (eval-rec-R t) (eval-rec-at t) eval-rec.Post
 eval-rec-returns-9 t c =
     let s = c .before .before .before .before .before .before .before in
@@ -556,7 +490,6 @@ eval-rec-returns-9 t c =
     let n = s .args .n in
     c .leaf-of .ensures (answersAt ns ps α n) ∙ sym (answer-is ns ps (s .pre .1 .0) n (s .pre .1 .1 .inside) α _ refl)
 
--- src/lib.rt:29:1
 eval-rec-returns-10 : (t : ℕ) → eval-rec-lts.Need-returns-10 (eval-rec-R t) (eval-rec-at t) eval-rec.Post
 eval-rec-returns-10 t c =
     let s = c .before .before .before .before .before .before .before in
@@ -566,7 +499,6 @@ eval-rec-returns-10 t c =
     let n = s .args .n in
     sym (answer-is ns ps (s .pre .1 .0) n (s .pre .1 .1 .inside) α (c .before .before .before .kind-of .result) (sym (c .before .before .before .kind-of .ensures)) ∙ ap (λ (κ : Kind). step α κ (datumAt ns n) (answersAt ns ps α n)) (registers (c .before .before .before .kind-of .result) (c .before .if1 .left) (c .if2 .taken) (c .before .before .match .rest .0 .0 .0 .0 .0 .0 .0 .1) (c .before .before .match .rest .0 .0 .0 .0 .0 .0 .1) (c .before .before .match .rest .0 .0 .0 .0 .0 .1) (c .before .before .match .rest .0 .0 .0 .0 .1) (c .before .before .match .rest .0 .0 .0 .1) (c .before .before .match .rest .0 .0 .1) (c .before .before .match .rest .0 .1)))
 
--- src/lib.rt:29:1
 eval-rec-returns-11 : (t : ℕ) → eval-rec-lts.Need-returns-11 (eval-rec-R t) (eval-rec-at t) eval-rec.Post
 eval-rec-returns-11 t c =
     let s = c .before .before .before .before .before .before .before .before .before in

@@ -1,22 +1,17 @@
+-- `failure_of` meets its contract: number by number.
 use borrow.Author.Tests.{ne-eqb}
 use Rattle.rows.proofs.failure_of.Statement.{statement}
 use Rattle.rows.proofs.failure_of.Tie as tie
-use Rattle.rows.proofs.failure_of.Reads as reads
-use Rattle.rows.proofs.failure_of.Lts as lts
 
--- src/rows.rt:52:1
 returns : tie.Need-returns
 returns c = simp (c .match .keys1)
 
--- src/rows.rt:52:1
 returns-2 : tie.Need-returns-2
 returns-2 c = simp (c .match .keys2)
 
--- src/rows.rt:52:1
 returns-3 : tie.Need-returns-3
 returns-3 c = simp (c .match .keys3)
 
--- src/rows.rt:52:1
 returns-4 : tie.Need-returns-4
 returns-4 c = simp (ne-eqb _ _ (c .match .rest .0 .0 .1), ne-eqb _ _ (c .match .rest .0 .1), ne-eqb _ _ (c .match .rest .1))
 

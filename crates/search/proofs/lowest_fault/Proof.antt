@@ -9,10 +9,6 @@ use Rattle.meaning.specs.Rules.Trees.{nodeCount}
 use Rattle.search.specs.Search.{faultOf, search-found, search-none}
 use Rattle.search.proofs.lowest_fault.Statement.{statement}
 use Rattle.search.proofs.lowest_fault.Tie as tie
-use Rattle.search.proofs.lowest_fault.Reads as reads
-use Rattle.search.proofs.lowest_fault.Lts as lts
-use Rattle.nodes.proofs.node_count.Reads as node-count-reads
-use Rattle.search.proofs.fault_at.Reads as fault-at-reads
 
 abbrev Inv-loop : tie.InvT-loop
 Inv-loop test nodes pool base work n i₀ i = (i ≤ n) × (n ≡ nodeCount nodes) × ((j : ℕ) → j < i → faultOf test nodes pool j ≡ 0)
@@ -20,23 +16,18 @@ Inv-loop test nodes pool base work n i₀ i = (i ≤ n) × (n ≡ nodeCount node
 abbrev μ-loop : tie.MeasureT-loop
 μ-loop test nodes pool base work n i₀ i = n - i
 
--- src/search.rt:30:9
 node-count-requires : tie.Need-node-count-requires Inv-loop μ-loop
 node-count-requires c κs = search needs
 
--- src/search.rt:31:5
 loop-holds : tie.Need-loop-holds Inv-loop μ-loop
 loop-holds c = (omega arith, c .node-count .ensures, λ j l. absurd (omega arith))
 
--- src/search.rt:32:13
 fault-at-requires : tie.Need-fault-at-requires Inv-loop μ-loop
 fault-at-requires c κs = (omega arith, c .before .before .before .before .before .before .pre .1)
 
--- src/search.rt:36:23
 cast-t10 : tie.Need-cast-t10 Inv-loop μ-loop
 cast-t10 c = search needs
 
--- src/search.rt:34:13
 returns : tie.Need-returns Inv-loop μ-loop
 returns c =
     let s = c .before .before .before .before .before .before .before .before in
@@ -48,15 +39,12 @@ returns c =
     let number : c .before .fault-at .result ≡ fault i = c .before .fault-at .ensures in
     ap (λ (k : ℕ). refuse k i) number ∙ search-found (nodeCount ns) fault i (omega arith) (l .inv .2) (omega (arith, number))
 
--- src/search.rt:31:9
 add-i : tie.Need-add-i Inv-loop μ-loop
 add-i c = search needs
 
--- src/search.rt:31:5
 loop-less : tie.Need-loop-less Inv-loop μ-loop
 loop-less c = search needs
 
--- src/search.rt:31:5
 loop-again : tie.Need-loop-again Inv-loop μ-loop
 loop-again c =
     let s = c .before .before .before .before .before .before .before .before in
@@ -68,7 +56,6 @@ loop-again c =
     let fine : fault i ≡ 0 = sym (c .before .fault-at .ensures) ∙ c .if1 .left in
     (omega arith, l .inv .1, below-more (λ (j : ℕ). fault j ≡ 0) i (l .inv .2) fine)
 
--- src/search.rt:25:1
 returns-2 : tie.Need-returns-2 Inv-loop μ-loop
 returns-2 c =
     let s = c .before .before .before .before .before .before in

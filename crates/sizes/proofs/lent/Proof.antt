@@ -1,3 +1,4 @@
+-- `lent` meets its contract: number 1 or 2 stops the row; past them number 10 is asked.
 use Rattle.sizes.specs.Within.{sizes-within}
 use Rattle.meaning.specs.Laws.NumberLaws.{then-go, then-stop}
 use Rattle.meaning.specs.Rules.Layout.{sizes, workFor, room}
@@ -10,17 +11,10 @@ use mathlib.Core.Path.{_≡_, sym, ap, _∙_}
 use borrow.Author.Needs.{needs}
 use Rattle.sizes.proofs.lent.Statement.{statement}
 use Rattle.sizes.proofs.lent.Tie as tie
-use Rattle.sizes.proofs.lent.Reads as reads
-use Rattle.sizes.proofs.lent.Lts as lts
-use Rattle.sizes.proofs.room.Reads as room-reads
-use Rattle.sizes.proofs.sizes.Reads as sizes-reads
-use Rattle.sizes.proofs.work_for.Reads as work-for-reads
 
--- src/lib.rt:48:9
 sizes-requires : tie.Need-sizes-requires
 sizes-requires c κs = search needs
 
--- src/lib.rt:50:9
 returns : tie.Need-returns
 returns c =
     let s = c .before .before .before .before .before in
@@ -31,7 +25,6 @@ returns c =
     let refused : sizes ns ps .number ≢ 0 = λ e. omega (arith, c .if1 .taken, ap (λ (r : Refusal). r .number) first, e) in
     first ∙ sym (then-stop (sizes ns ps) second refused)
 
--- src/lib.rt:52:10
 work-for-requires : tie.Need-work-for-requires
 work-for-requires c κs =
     let s = c .before .before .before .before .before in
@@ -42,11 +35,9 @@ work-for-requires c κs =
     let sized : sizes ns ps .number ≡ 0 = ap (λ (r : Refusal). r .number) (sym first) ∙ c .if1 .left in
     sizes-within ns ps sized
 
--- src/lib.rt:52:5
 room-requires : tie.Need-room-requires
 room-requires c κs = search needs
 
--- src/lib.rt:45:1
 returns-2 : tie.Need-returns-2
 returns-2 c =
     let s = c .before .before .before .before .before .before .before in

@@ -1,3 +1,4 @@
+-- `answer_of` meets its contract: arm by arm, each its clause of `step` over the operands' answers.
 use Rattle.meaning.specs.Rules.Kinds.{Kind}
 use Rattle.accepted.specs.Operands.{fixed, held-operand, nor-operands, registers}
 use Rattle.accepted.specs.Nodes.{answersAt, answer-is}
@@ -11,86 +12,61 @@ use native.Mathlib.Omega.{arith}
 use mathlib.Core.Path.{_≡_, refl, sym, ap, ap₂, _∙_}
 use Rattle.steps.proofs.answer_of.Statement.{statement}
 use Rattle.steps.proofs.answer_of.Tie as tie
-use Rattle.steps.proofs.answer_of.Reads as reads
-use Rattle.steps.proofs.answer_of.Lts as lts
-use Rattle.accepted.proofs.leaf_of.Reads as leaf-of-reads
-use Rattle.nodes.proofs.kind_of.Reads as kind-of-reads
-use Rattle.operators.proofs.and_of.Reads as and-of-reads
-use Rattle.operators.proofs.nor_of.Reads as nor-of-reads
-use Rattle.operators.proofs.not_of.Reads as not-of-reads
-use Rattle.operators.proofs.xor_of.Reads as xor-of-reads
-use Rattle.steps.proofs.bus_at.Reads as bus-at-reads
-use Rattle.steps.proofs.lut_at.Reads as lut-at-reads
-use Rattle.steps.proofs.mux_at.Reads as mux-at-reads
-use Rattle.steps.proofs.operand_answer.Reads as operand-answer-reads
 
--- src/step.rt:39:9
 kind-of-requires : tie.Need-kind-of-requires
 kind-of-requires c κs = search needs
 
--- src/step.rt:43:17
 operand-answer-requires : tie.Need-operand-answer-requires
 operand-answer-requires c κs =
     let s = c .before .before .before .before .before .before in
     ((s .pre .0), ((s .pre .1), fixed (s .args .nodes .now) (s .args .pool .now) (s .pre .0 .ready .sound) (s .args .n) (s .pre .1 .inside) 4 2 0 (sym (c .before .kind-of .ensures) ∙ c .match .keys1) (λ c. refl) refl (lit< tt)))
 
--- src/step.rt:44:17
 operand-answer-requires-2 : tie.Need-operand-answer-requires-2
 operand-answer-requires-2 c κs =
     let s = c .before .before .before .before .before .before .before in
     ((s .pre .0), ((s .pre .1), fixed (s .args .nodes .now) (s .args .pool .now) (s .pre .0 .ready .sound) (s .args .n) (s .pre .1 .inside) 4 2 1 (sym (c .before .before .kind-of .ensures) ∙ c .before .match .keys1) (λ c. refl) refl (lit< tt)))
 
--- src/step.rt:45:13
 nor-of-requires : tie.Need-nor-of-requires
 nor-of-requires c κs =
     let s = c .before .before .before .before .before .before .before .before in
     rw ((c .before .operand-answer .ensures), (c .operand-answer2 .ensures)) (nor-operands (s .args .nodes .now) (s .args .pool .now) (s .pre .0 .ready .sound) (s .args .n) (s .pre .1) (given (s .args .bytes .now)) (rw (sym (c .before .before .before .kind-of .ensures) ∙ c .before .before .match .keys1)))
 
--- src/step.rt:47:14
 mux-at-requires : tie.Need-mux-at-requires
 mux-at-requires c κs =
     let s = c .before .before .before .before .before .before in
     ((s .pre .0), ((s .pre .1), (sym (c .before .kind-of .ensures) ∙ c .match .keys2)))
 
--- src/step.rt:49:17
 operand-answer-requires-3 : tie.Need-operand-answer-requires-3
 operand-answer-requires-3 c κs =
     let s = c .before .before .before .before .before .before in
     ((s .pre .0), ((s .pre .1), fixed (s .args .nodes .now) (s .args .pool .now) (s .pre .0 .ready .sound) (s .args .n) (s .pre .1 .inside) 6 2 0 (sym (c .before .kind-of .ensures) ∙ c .match .keys3) (λ c. refl) refl (lit< tt)))
 
--- src/step.rt:50:17
 operand-answer-requires-4 : tie.Need-operand-answer-requires-4
 operand-answer-requires-4 c κs =
     let s = c .before .before .before .before .before .before .before in
     ((s .pre .0), ((s .pre .1), fixed (s .args .nodes .now) (s .args .pool .now) (s .pre .0 .ready .sound) (s .args .n) (s .pre .1 .inside) 6 2 1 (sym (c .before .before .kind-of .ensures) ∙ c .before .match .keys3) (λ c. refl) refl (lit< tt)))
 
--- src/step.rt:51:13
 and-of-requires : tie.Need-and-of-requires
 and-of-requires c κs = search needs
 
--- src/step.rt:54:17
 operand-answer-requires-5 : tie.Need-operand-answer-requires-5
 operand-answer-requires-5 c κs =
     let s = c .before .before .before .before .before .before in
     ((s .pre .0), ((s .pre .1), fixed (s .args .nodes .now) (s .args .pool .now) (s .pre .0 .ready .sound) (s .args .n) (s .pre .1 .inside) 7 2 0 (sym (c .before .kind-of .ensures) ∙ c .match .keys4) (λ c. refl) refl (lit< tt)))
 
--- src/step.rt:55:17
 operand-answer-requires-6 : tie.Need-operand-answer-requires-6
 operand-answer-requires-6 c κs =
     let s = c .before .before .before .before .before .before .before in
     ((s .pre .0), ((s .pre .1), fixed (s .args .nodes .now) (s .args .pool .now) (s .pre .0 .ready .sound) (s .args .n) (s .pre .1 .inside) 7 2 1 (sym (c .before .before .kind-of .ensures) ∙ c .before .match .keys4) (λ c. refl) refl (lit< tt)))
 
--- src/step.rt:56:13
 xor-of-requires : tie.Need-xor-of-requires
 xor-of-requires c κs = search needs
 
--- src/step.rt:58:21
 operand-answer-requires-7 : tie.Need-operand-answer-requires-7
 operand-answer-requires-7 c κs =
     let s = c .before .before .before .before .before .before in
     ((s .pre .0), ((s .pre .1), fixed (s .args .nodes .now) (s .args .pool .now) (s .pre .0 .ready .sound) (s .args .n) (s .pre .1 .inside) 8 1 0 (sym (c .before .kind-of .ensures) ∙ c .match .keys5) (λ c. refl) refl (lit< tt)))
 
--- src/step.rt:58:14
 not-of-requires : tie.Need-not-of-requires
 not-of-requires c κs =
     let s = c .before .before .before .before .before .before .before in
@@ -99,25 +75,21 @@ not-of-requires c κs =
     let n = s .args .n in
     rw (c .operand-answer7 .ensures) (held-operand ns ps (s .pre .0 .ready .sound) n (s .pre .1) (given (s .args .bytes .now)) 0 (fixed ns ps (s .pre .0 .ready .sound) n (s .pre .1 .inside) 8 1 0 (sym (c .before .before .kind-of .ensures) ∙ c .before .match .keys5) (λ c. refl) refl (lit< tt)))
 
--- src/step.rt:59:14
 lut-at-requires : tie.Need-lut-at-requires
 lut-at-requires c κs =
     let s = c .before .before .before .before .before .before in
     ((s .pre .0), ((s .pre .1), (sym (c .before .kind-of .ensures) ∙ c .match .keys6)))
 
--- src/step.rt:60:15
 bus-at-requires : tie.Need-bus-at-requires
 bus-at-requires c κs =
     let s = c .before .before .before .before .before .before in
     ((s .pre .0), ((s .pre .1), (sym (c .before .kind-of .ensures) ∙ c .match .keys7)))
 
--- src/step.rt:41:18
 leaf-of-requires : tie.Need-leaf-of-requires
 leaf-of-requires c κs =
     let s = c .before .before .before .before .before .before .before in
     (s .pre .1 .inside, (omega (arith, c .before .before .kind-of .ensures, c .if1 .taken), (s .pre .1) .noProgram))
 
--- src/step.rt:63:14
 operand-answer-requires-8 : tie.Need-operand-answer-requires-8
 operand-answer-requires-8 c κs =
     let s = c .before .before .before .before .before .before .before .before in
@@ -125,49 +97,40 @@ operand-answer-requires-8 c κs =
     let n = s .args .n in
     let e : kindAt ns n ≡ 16 = (omega (arith, c .before .before .before .kind-of .ensures, c .if2 .left, c .before .before .match .rest .1, (s .pre .0 .ready .sound) .0 n (s .pre .1 .inside) .0)) in ((s .pre .0), ((s .pre .1), fixed ns (s .args .pool .now) (s .pre .0 .ready .sound) n (s .pre .1 .inside) 16 1 0 e (λ c. refl) refl (lit< tt)))
 
--- src/step.rt:27:1
 returns : tie.Need-returns
 returns c =
     let s = c .before .before .before .before .before .before .before .before .before in
     c .nor-of .ensures ∙ ap₂ norOf (c .before .before .operand-answer .ensures) (c .before .operand-answer2 .ensures) ∙ sym (answer-is (s .args .nodes .now) (s .args .pool .now) (s .pre .0 .ready .sound) (s .args .n) (s .pre .1 .inside) (given (s .args .bytes .now)) 4 (sym (c .before .before .before .before .kind-of .ensures) ∙ c .before .before .before .match .keys1))
 
--- src/step.rt:27:1
 returns-2 : tie.Need-returns-2
 returns-2 c = c .mux-at .ensures
 
--- src/step.rt:27:1
 returns-3 : tie.Need-returns-3
 returns-3 c =
     let s = c .before .before .before .before .before .before .before .before .before in
     c .and-of .ensures ∙ ap₂ andOf (c .before .before .operand-answer3 .ensures) (c .before .operand-answer4 .ensures) ∙ sym (answer-is (s .args .nodes .now) (s .args .pool .now) (s .pre .0 .ready .sound) (s .args .n) (s .pre .1 .inside) (given (s .args .bytes .now)) 6 (sym (c .before .before .before .before .kind-of .ensures) ∙ c .before .before .before .match .keys3))
 
--- src/step.rt:27:1
 returns-4 : tie.Need-returns-4
 returns-4 c =
     let s = c .before .before .before .before .before .before .before .before .before in
     c .xor-of .ensures ∙ ap₂ xorOf (c .before .before .operand-answer5 .ensures) (c .before .operand-answer6 .ensures) ∙ sym (answer-is (s .args .nodes .now) (s .args .pool .now) (s .pre .0 .ready .sound) (s .args .n) (s .pre .1 .inside) (given (s .args .bytes .now)) 7 (sym (c .before .before .before .before .kind-of .ensures) ∙ c .before .before .before .match .keys4))
 
--- src/step.rt:27:1
 returns-5 : tie.Need-returns-5
 returns-5 c =
     let s = c .before .before .before .before .before .before .before .before in
     c .not-of .ensures ∙ ap notOf (c .before .operand-answer7 .ensures) ∙ sym (answer-is (s .args .nodes .now) (s .args .pool .now) (s .pre .0 .ready .sound) (s .args .n) (s .pre .1 .inside) (given (s .args .bytes .now)) 8 (sym (c .before .before .before .kind-of .ensures) ∙ c .before .before .match .keys5))
 
--- src/step.rt:27:1
 returns-6 : tie.Need-returns-6
 returns-6 c = c .lut-at .ensures
 
--- src/step.rt:27:1
 returns-7 : tie.Need-returns-7
 returns-7 c = c .bus-at .ensures
 
--- src/step.rt:27:1
 returns-8 : tie.Need-returns-8
 returns-8 c =
     let s = c .before .before .before .before .before .before in
     sym (answer-is (s .args .nodes .now) (s .args .pool .now) (s .pre .0 .ready .sound) (s .args .n) (s .pre .1 .inside) (given (s .args .bytes .now)) 15 (sym (c .before .kind-of .ensures) ∙ c .match .keys8))
 
--- src/step.rt:27:1
 returns-9 : tie.Need-returns-9
 returns-9 c =
     let s = c .before .before .before .before .before .before .before .before in
@@ -177,7 +140,6 @@ returns-9 c =
     let n = s .args .n in
     c .leaf-of .ensures (answersAt ns ps α n) ∙ sym (answer-is ns ps (s .pre .0 .ready .sound) n (s .pre .1 .inside) α _ refl)
 
--- src/step.rt:27:1
 returns-10 : tie.Need-returns-10
 returns-10 c =
     let s = c .before .before .before .before .before .before .before .before in
@@ -187,7 +149,6 @@ returns-10 c =
     let n = s .args .n in
     sym (answer-is ns ps (s .pre .0 .ready .sound) n (s .pre .1 .inside) α (c .before .before .before .kind-of .result) (sym (c .before .before .before .kind-of .ensures)) ∙ ap (λ (κ : Kind). step α κ (datumAt ns n) (answersAt ns ps α n)) (registers (c .before .before .before .kind-of .result) (c .before .if1 .left) (c .if2 .taken) (c .before .before .match .rest .0 .0 .0 .0 .0 .0 .0 .1) (c .before .before .match .rest .0 .0 .0 .0 .0 .0 .1) (c .before .before .match .rest .0 .0 .0 .0 .0 .1) (c .before .before .match .rest .0 .0 .0 .0 .1) (c .before .before .match .rest .0 .0 .0 .1) (c .before .before .match .rest .0 .0 .1) (c .before .before .match .rest .0 .1)))
 
--- src/step.rt:27:1
 returns-11 : tie.Need-returns-11
 returns-11 c =
     let s = c .before .before .before .before .before .before .before .before .before in

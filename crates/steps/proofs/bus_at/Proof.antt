@@ -1,3 +1,4 @@
+-- `bus_at` meets its contract: the loop has folded the members before it (`BusTo`).
 use Rattle.accepted.specs.Operands.{bus-takes, bus-size, answers-size, bus-member}
 use Rattle.accepted.specs.Nodes.{answersAt, answer-is, children-length}
 use Rattle.operators.specs.Folds.{BusTo, bus-start, bus-more, bus-done}
@@ -12,11 +13,6 @@ use native.Mathlib.Omega.{arith}
 use mathlib.Core.Path.{_≡_, sym, _∙_}
 use Rattle.steps.proofs.bus_at.Statement.{statement}
 use Rattle.steps.proofs.bus_at.Tie as tie
-use Rattle.steps.proofs.bus_at.Reads as reads
-use Rattle.steps.proofs.bus_at.Lts as lts
-use Rattle.nodes.proofs.count_of.Reads as count-of-reads
-use Rattle.operators.proofs.bus_step.Reads as bus-step-reads
-use Rattle.steps.proofs.operand_answer.Reads as operand-answer-reads
 
 abbrev Inv-loop : tie.InvT-loop
 Inv-loop nodes pool bytes base work n count bus₀ i₀ bus i =
@@ -25,11 +21,9 @@ Inv-loop nodes pool bytes base work n count bus₀ i₀ bus i =
 abbrev μ-loop : tie.MeasureT-loop
 μ-loop nodes pool bytes base work n count bus₀ i₀ bus i = count - i
 
--- src/step.rt:146:9
 count-of-requires : tie.Need-count-of-requires Inv-loop μ-loop
 count-of-requires c κs = (c .before .before .before .before .pre .1 .0) .inside
 
--- src/step.rt:148:5
 loop-holds : tie.Need-loop-holds Inv-loop μ-loop
 loop-holds c =
     let s = c .before .before .before .before .before in
@@ -38,14 +32,12 @@ loop-holds c =
     let n = s .args .n in
     (omega arith, c .count-of .ensures .0 ∙ sym (children-length ns ps (s .pre .0 .ready .sound) n (s .pre .1 .0 .inside) (omega (arith, (s .pre .1 .1)))), bus-start (answersAt ns ps (given (s .args .bytes .now)) n))
 
--- src/step.rt:149:13
 operand-answer-requires : tie.Need-operand-answer-requires Inv-loop μ-loop
 operand-answer-requires c κs =
     let s = c .before .before .before .before .before .before .before in
     let l = c .before .loop in
     ((s .pre .0), ((s .pre .1 .0), bus-takes (s .args .nodes .now) (s .args .pool .now) (s .pre .0 .ready .sound) (s .args .n) (l .i) (s .pre .1 .1) (omega (arith, l .inv .1))))
 
--- src/step.rt:150:9
 bus-step-requires : tie.Need-bus-step-requires Inv-loop μ-loop
 bus-step-requires c κs =
     let s = c .before .before .before .before .before .before .before .before in
@@ -55,15 +47,12 @@ bus-step-requires c κs =
     let l = c .before .before .loop in
     (held-more (l .i) 63 (l .bus) (omega (arith, l .inv .1, bus-size ns ps (s .pre .0 .ready .sound) n (s .pre .1 .0 .inside) (s .pre .1 .1))) (l .inv .2 .narrow), rw (c .operand-answer .ensures) (bus-member ns ps (s .pre .0 .ready .sound) n (s .pre .1 .0) (given (s .args .bytes .now)) (l .i) (s .pre .1 .1) (omega (arith, l .inv .1))))
 
--- src/step.rt:148:9
 add-i : tie.Need-add-i Inv-loop μ-loop
 add-i c = search needs
 
--- src/step.rt:148:5
 loop-less : tie.Need-loop-less Inv-loop μ-loop
 loop-less c = search needs
 
--- src/step.rt:148:5
 loop-again : tie.Need-loop-again Inv-loop μ-loop
 loop-again c =
     let s = c .before .before .before .before .before .before .before .before .before in
@@ -74,7 +63,6 @@ loop-again c =
     let l = c .before .before .before .loop in
     (omega arith, l .inv .1, bus-more (answersAt ns ps α n) (l .i) (l .bus) (c .bus-step .result) (c .before .operand-answer .result) (rw (answers-size ns ps (s .pre .0 .ready .sound) n α) (omega (arith, l .inv .1))) (l .inv .2) (c .before .operand-answer .ensures) (rw (c .before .operand-answer .ensures) (bus-member ns ps (s .pre .0 .ready .sound) n (s .pre .1 .0) α (l .i) (s .pre .1 .1) (omega (arith, l .inv .1)))) (c .bus-step .ensures))
 
--- src/step.rt:133:1
 returns : tie.Need-returns Inv-loop μ-loop
 returns c =
     let s = c .before .before .before .before .before .before .before in

@@ -1,3 +1,4 @@
+-- `lut_at` meets its contract: the loop has gathered the row before it (`RowTo`); a failing operand ends it.
 use Rattle.accepted.specs.Operands.{lut-takes, answers-size, lut-operand, lut-children, lut-program}
 use Rattle.accepted.specs.Nodes.{answersAt, answer-is, children-length}
 use Rattle.operators.specs.Folds.{RowTo, row-start, row-more, row-fails, row-done, row-lt}
@@ -12,12 +13,6 @@ use native.Mathlib.Omega.{arith}
 use mathlib.Core.Path.{_≡_, sym, _∙_}
 use Rattle.steps.proofs.lut_at.Statement.{statement}
 use Rattle.steps.proofs.lut_at.Tie as tie
-use Rattle.steps.proofs.lut_at.Reads as reads
-use Rattle.steps.proofs.lut_at.Lts as lts
-use Rattle.accepted.proofs.program_of.Reads as program-of-reads
-use Rattle.nodes.proofs.count_of.Reads as count-of-reads
-use Rattle.operators.proofs.row_bit.Reads as row-bit-reads
-use Rattle.steps.proofs.operand_answer.Reads as operand-answer-reads
 
 abbrev Inv-loop : tie.InvT-loop
 Inv-loop nodes pool bytes base work n count row₀ i₀ row i =
@@ -26,11 +21,9 @@ Inv-loop nodes pool bytes base work n count row₀ i₀ row i =
 abbrev μ-loop : tie.MeasureT-loop
 μ-loop nodes pool bytes base work n count row₀ i₀ row i = count - i
 
--- src/step.rt:120:9
 count-of-requires : tie.Need-count-of-requires Inv-loop μ-loop
 count-of-requires c κs = (c .before .before .before .before .pre .1 .0) .inside
 
--- src/step.rt:122:5
 loop-holds : tie.Need-loop-holds Inv-loop μ-loop
 loop-holds c =
     let s = c .before .before .before .before .before in
@@ -39,22 +32,18 @@ loop-holds c =
     let n = s .args .n in
     let e = c .count-of .ensures .0 ∙ sym (children-length ns ps (s .pre .0 .ready .sound) n (s .pre .1 .0 .inside) (omega (arith, (s .pre .1 .1)))) in (omega arith, omega (arith, e, lut-children ns ps (s .pre .0 .ready .sound) n (s .pre .1 .0) (s .pre .1 .1) .some), e, row-start (answersAt ns ps (given (s .args .bytes .now)) n))
 
--- src/step.rt:123:13
 operand-answer-requires : tie.Need-operand-answer-requires Inv-loop μ-loop
 operand-answer-requires c κs =
     let s = c .before .before .before .before .before .before .before in
     let l = c .before .loop in
     ((s .pre .0), ((s .pre .1 .0), lut-takes (s .args .nodes .now) (s .args .pool .now) (s .pre .0 .ready .sound) (s .args .n) (l .i) (s .pre .1 .1) (l .inv .0) (omega (arith, l .inv .2))))
 
--- src/step.rt:124:36
 enum-known-x : tie.Need-enum-known-x Inv-loop μ-loop
 enum-known-x c = search needs
 
--- src/step.rt:125:13
 enum-told : tie.Need-enum-told Inv-loop μ-loop
 enum-told c = search needs
 
--- src/step.rt:125:13
 returns : tie.Need-returns Inv-loop μ-loop
 returns c =
     let s = c .before .before .before .before .before .before .before .before .before .before in
@@ -66,7 +55,6 @@ returns c =
     let l = c .before .before .before .before .loop in
     row-fails xs (valueOf (nth xs 0)) (l .i) (l .row) (c .before .before .operand-answer .result) _ (rw (answers-size ns ps (s .pre .0 .ready .sound) n α) (omega (arith, l .inv .2))) (l .inv .3) (c .before .before .operand-answer .ensures) (c .enum-told .given .1) ∙ sym (answer-is ns ps (s .pre .0 .ready .sound) n (s .pre .1 .0 .inside) α 9 (s .pre .1 .1))
 
--- src/step.rt:127:15
 mul-row : tie.Need-mul-row Inv-loop μ-loop
 mul-row c =
     let s = c .before .before .before .before .before .before .before .before .before .before .before in
@@ -76,7 +64,6 @@ mul-row c =
     let l = c .before .before .before .before .before .loop in
     omega (arith, row-lt (answersAt ns ps (given (s .args .bytes .now)) n) (l .i) (l .row) (omega (arith, l .inv .1, l .inv .2, lut-children ns ps (s .pre .0 .ready .sound) n (s .pre .1 .0) (s .pre .1 .1) .few)) (l .inv .3))
 
--- src/step.rt:127:15
 add-row : tie.Need-add-row Inv-loop μ-loop
 add-row c =
     let s = c .before .before .before .before .before .before .before .before .before .before .before in
@@ -87,15 +74,12 @@ add-row c =
     let l = c .before .before .before .before .before .loop in
     omega (arith, row-lt (answersAt ns ps α n) (l .i) (l .row) (omega (arith, l .inv .1, l .inv .2, lut-children ns ps (s .pre .0 .ready .sound) n (s .pre .1 .0) (s .pre .1 .1) .few)) (l .inv .3), held-lt 1 _ _ (c .before .before .before .operand-answer .result) (rw (c .before .before .before .operand-answer .ensures) (lut-operand ns ps (s .pre .0 .ready .sound) n (s .pre .1 .0) α (l .i) (s .pre .1 .1) (l .inv .0) (omega (arith, l .inv .2)))) (c .before .x .given .1))
 
--- src/step.rt:122:9
 add-i : tie.Need-add-i Inv-loop μ-loop
 add-i c = search needs
 
--- src/step.rt:122:5
 loop-less : tie.Need-loop-less Inv-loop μ-loop
 loop-less c = search needs
 
--- src/step.rt:122:5
 loop-again : tie.Need-loop-again Inv-loop μ-loop
 loop-again c =
     let s = c .before .before .before .before .before .before .before .before .before .before .before in
@@ -106,13 +90,11 @@ loop-again c =
     let l = c .before .before .before .before .before .loop in
     (omega arith, omega arith, l .inv .2, row-more (answersAt ns ps α n) (l .i) (l .row) _ _ (c .before .before .before .operand-answer .result) (omega (arith, l .inv .0)) (rw (answers-size ns ps (s .pre .0 .ready .sound) n α) (omega (arith, l .inv .2))) (l .inv .3) (c .before .before .before .operand-answer .ensures) (rw (c .before .before .before .operand-answer .ensures) (lut-operand ns ps (s .pre .0 .ready .sound) n (s .pre .1 .0) α (l .i) (s .pre .1 .1) (l .inv .0) (omega (arith, l .inv .2)))) (c .before .x .given .1))
 
--- src/step.rt:129:13
 program-of-requires : tie.Need-program-of-requires Inv-loop μ-loop
 program-of-requires c κs =
     let s = c .before .before .before .before .before .before .before in
     ((s .pre .0 .ready .sound), ((s .pre .1 .0), (s .pre .1 .1)))
 
--- src/step.rt:129:5
 row-bit-requires : tie.Need-row-bit-requires Inv-loop μ-loop
 row-bit-requires c κs =
     let s = c .before .before .before .before .before .before .before .before in
@@ -122,7 +104,6 @@ row-bit-requires c κs =
     let l = c .before .before .loop in
     row-lt (answersAt ns ps (given (s .args .bytes .now)) n) (l .i) (l .row) (omega (arith, l .inv .1, l .inv .2, lut-children ns ps (s .pre .0 .ready .sound) n (s .pre .1 .0) (s .pre .1 .1) .few)) (l .inv .3)
 
--- src/step.rt:107:1
 returns-2 : tie.Need-returns-2 Inv-loop μ-loop
 returns-2 c =
     let s = c .before .before .before .before .before .before .before .before .before in

@@ -1,3 +1,4 @@
+-- `mux_at` meets its contract: the selector's failure, or the arm that it chooses.
 use borrow.Author.Tests.{lt-ltb}
 use Rattle.accepted.specs.Operands.{fixed, mux-failed, mux-arm, arm-lt}
 use Rattle.accepted.specs.Nodes.{answersAt, answer-is}
@@ -10,26 +11,18 @@ use borrow.Author.Needs.{needs}
 use mathlib.Core.Path.{refl, sym, ap, _∙_}
 use Rattle.steps.proofs.mux_at.Statement.{statement}
 use Rattle.steps.proofs.mux_at.Tie as tie
-use Rattle.steps.proofs.mux_at.Reads as reads
-use Rattle.steps.proofs.mux_at.Lts as lts
-use Rattle.operators.proofs.arm_of.Reads as arm-of-reads
-use Rattle.steps.proofs.operand_answer.Reads as operand-answer-reads
 
--- src/step.rt:99:9
 operand-answer-requires : tie.Need-operand-answer-requires
 operand-answer-requires c κs =
     let s = c .before .before .before .before in
     ((s .pre .0), ((s .pre .1 .0), fixed (s .args .nodes .now) (s .args .pool .now) (s .pre .0 .ready .sound) (s .args .n) (s .pre .1 .0 .inside) 5 3 0 (s .pre .1 .1) (λ c. refl) refl (lit< tt)))
 
--- src/step.rt:100:25
 enum-known-selector : tie.Need-enum-known-selector
 enum-known-selector c = search needs
 
--- src/step.rt:101:9
 enum-told : tie.Need-enum-told
 enum-told c = search needs
 
--- src/step.rt:101:9
 returns : tie.Need-returns
 returns c =
     let s = c .before .before .before .before .before .before .before in
@@ -40,17 +33,14 @@ returns c =
     let xs = answersAt ns ps α n in
     mux-failed _ (nth xs 1) (nth xs 2) _ (c .enum-told .given .1) ∙ ap (λ (s : Answer). muxOf s (nth xs 1) (nth xs 2)) (c .before .before .operand-answer .ensures) ∙ sym (answer-is ns ps (s .pre .0 .ready .sound) n (s .pre .1 .0 .inside) α 5 (s .pre .1 .1))
 
--- src/step.rt:103:55
 arm-of-requires : tie.Need-arm-of-requires
 arm-of-requires c κs = search needs
 
--- src/step.rt:103:5
 operand-answer-requires-2 : tie.Need-operand-answer-requires-2
 operand-answer-requires-2 c κs =
     let s = c .before .before .before .before .before .before .before .before .before in
     let h = arm-lt (c .before .before .selector .given .0 .1 .0) (c .arm-of .result) (c .arm-of .ensures) in ((s .pre .0), ((s .pre .1 .0), fixed (s .args .nodes .now) (s .args .pool .now) (s .pre .0 .ready .sound) (s .args .n) (s .pre .1 .0 .inside) 5 3 (c .arm-of .result) (s .pre .1 .1) (λ c. refl) (lt-ltb (c .arm-of .result) 3 h) h))
 
--- src/step.rt:86:1
 returns-2 : tie.Need-returns-2
 returns-2 c =
     let s = c .before .before .before .before .before .before .before .before .before .before in

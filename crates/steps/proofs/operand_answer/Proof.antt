@@ -1,3 +1,4 @@
+-- `operand_answer` meets its contract: the row of a lower node that has an answer shows it.
 use Rattle.rows.specs.Rows.{row-shape, row-wide, row-answer}
 use Rattle.meaning.specs.Rules.Evaluable.{shape}
 use Rattle.meaning.specs.Rules.Trees.{treeOf}
@@ -7,28 +8,20 @@ use mathlib.Core.Path.{_∙_}
 use borrow.Author.Needs.{needs}
 use Rattle.steps.proofs.operand_answer.Statement.{statement}
 use Rattle.steps.proofs.operand_answer.Tie as tie
-use Rattle.steps.proofs.operand_answer.Reads as reads
-use Rattle.steps.proofs.operand_answer.Lts as lts
-use Rattle.accepted.proofs.operand.Reads as operand-reads
-use Rattle.rows.proofs.answer_at.Reads as answer-at-reads
 
--- src/step.rt:82:28
 operand-requires : tie.Need-operand-requires
 operand-requires c κs =
     let s = c .before .before .before .before in
     ((s .pre .0 .ready .sound), ((s .pre .1 .0), s .pre .1 .1))
 
--- src/step.rt:82:21
 add-answer-at : tie.Need-add-answer-at
 add-answer-at c = search needs
 
--- src/step.rt:82:5
 answer-at-requires : tie.Need-answer-at-requires
 answer-at-requires c κs =
     let s = c .before .before .before .before .before in
     (omega (arith, (s .pre .0) .ready .room, c .operand .ensures .logic .inside), row-wide (s .args .nodes .now) (s .args .pool .now) (given (s .args .bytes .now)) (s .args .base) (s .args .work .now) (s .args .n) (s .pre .0) (c .operand .result) (c .operand .ensures .below) (c .operand .ensures .logic) (c .operand .ensures .shaped))
 
--- src/step.rt:68:1
 returns : tie.Need-returns
 returns c =
     let s = c .before .before .before .before .before .before in

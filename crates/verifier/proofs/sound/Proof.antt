@@ -16,22 +16,13 @@ use Rattle.verifier.specs.Left.{withMarks, withShapes, verified-laid, so
 use Rattle.search.specs.Search.{Marked, Shaped}
 use Rattle.verifier.proofs.sound.Statement.{statement}
 use Rattle.verifier.proofs.sound.Tie as tie
-use Rattle.verifier.proofs.sound.Reads as reads
-use Rattle.verifier.proofs.sound.Lts as lts
-use Rattle.nodes.proofs.node_count.Reads as node-count-reads
-use Rattle.shapes.proofs.step.write_shapes.Reads as write-shapes-reads
-use Rattle.search.proofs.lowest_fault.Reads as lowest-fault-reads
-use Rattle.verifier.proofs.verified.Reads as verified-reads
 
--- src/lib.rt:58:9
 verified-requires : tie.Need-verified-requires
 verified-requires c κs = search needs
 
--- src/lib.rt:60:9
 same-length : tie.Need-same-length
 same-length c = search needs
 
--- src/lib.rt:60:9
 returns : tie.Need-returns
 returns c =
     let s = c .before .before .before .before .before .before .before .before .before in
@@ -43,15 +34,12 @@ returns c =
     let refused : toSix ns ps .number ≢ 0 = λ e. omega (arith, c .if1 .taken, ap (λ (r : Refusal). r .number) first, e) in
     (first ∙ sound-stops ns ps refused, c .before .before .before .before .verified .ensures .1 ∙ sym (sound-refused ns ps base work refused))
 
--- src/lib.rt:62:8
 node-count-requires : tie.Need-node-count-requires
 node-count-requires c κs = search needs
 
--- src/lib.rt:63:9
 same-length-2 : tie.Need-same-length-2
 same-length-2 c = search needs
 
--- src/lib.rt:63:9
 returns-2 : tie.Need-returns-2
 returns-2 c =
     let s = c .before .before .before .before .before .before .before .before .before .before .before in
@@ -69,7 +57,6 @@ returns-2 c =
       marks ∙ unmarked ∙ sym (empty-work ns ps base work none) ∙ sym (sound-verified ns ps base work done),
     )
 
--- src/lib.rt:68:5
 write-shapes-requires : tie.Need-write-shapes-requires
 write-shapes-requires c κs =
     let s = c .before .before .before .before .before .before .before .before .before .before .before .before in
@@ -84,7 +71,6 @@ write-shapes-requires c κs =
     let kept : length (c .before .before .before .before .before .before .before .verified .last .1 .1 .1 .0) ≡ length work = c .before .before .before .before .before .before .before .verified .kept .1 .1 .1 .0 in
     (laid, omega (arith, kept, s .pre .1))
 
--- src/lib.rt:69:5
 lowest-fault-requires : tie.Need-lowest-fault-requires
 lowest-fault-requires c κs =
     let s = c .before .before .before .before .before .before .before .before .before .before .before .before .before .before .before .before in
@@ -105,11 +91,9 @@ lowest-fault-requires c κs =
       ),
     )
 
--- src/lib.rt:52:1
 same-length-3 : tie.Need-same-length-3
 same-length-3 c = search needs
 
--- src/lib.rt:52:1
 returns-3 : tie.Need-returns-3
 returns-3 c =
     let s = c .before .before .before .before .before .before .before .before .before .before .before .before .before .before .before .before .before in

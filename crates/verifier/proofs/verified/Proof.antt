@@ -15,20 +15,13 @@ use Rattle.verifier.specs.Left.{verified-refused, verified-laid, marked}
 use Rattle.search.specs.Search.{Marked}
 use Rattle.verifier.proofs.verified.Statement.{statement}
 use Rattle.verifier.proofs.verified.Tie as tie
-use Rattle.verifier.proofs.verified.Reads as reads
-use Rattle.verifier.proofs.verified.Lts as lts
-use Rattle.marks.proofs.mark_reached.Reads as mark-reached-reads
-use Rattle.search.proofs.lowest_fault.Reads as lowest-fault-reads
 
--- src/lib.rt:79:9
 lowest-fault-requires : tie.Need-lowest-fault-requires
 lowest-fault-requires c κs = (c .before .before .before .before .pre .0, tt)
 
--- src/lib.rt:81:9
 same-length : tie.Need-same-length
 same-length c = search needs
 
--- src/lib.rt:81:9
 returns : tie.Need-returns
 returns c =
     let s = c .before .before .before .before .before .before .before in
@@ -42,7 +35,6 @@ returns c =
       sym (verified-refused ns ps base work refused),
     )
 
--- src/lib.rt:83:5
 mark-reached-requires : tie.Need-mark-reached-requires
 mark-reached-requires c κs =
     let s = c .before .before .before .before .before .before .before .before in
@@ -54,7 +46,6 @@ mark-reached-requires c κs =
     let done : layout ns ps .number ≡ 0 = ap (λ (r : Refusal). r .number) (sym first) ∙ c .before .if1 .left in
     let laid : Laid ns ps = layout-laid ns ps done in (laid, s .pre)
 
--- src/lib.rt:84:5
 lowest-fault-requires-2 : tie.Need-lowest-fault-requires-2
 lowest-fault-requires-2 c κs =
     let s = c .before .before .before .before .before .before .before .before .before .before .before .before in
@@ -69,11 +60,9 @@ lowest-fault-requires-2 c κs =
       subst (Marked ns ps base) (sym (c .before .before .before .mark-reached .ensures)) (marked ns ps base work (s .pre .1) laid),
     )
 
--- src/lib.rt:73:1
 same-length-2 : tie.Need-same-length-2
 same-length-2 c = search needs
 
--- src/lib.rt:73:1
 returns-2 : tie.Need-returns-2
 returns-2 c =
     let s = c .before .before .before .before .before .before .before .before .before .before .before .before .before in

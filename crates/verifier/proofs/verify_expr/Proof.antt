@@ -1,3 +1,4 @@
+-- `verify_expr` meets its contract: 1, 2 and 10 leave everything; else the rest of the row answers, and the work space is cleared.
 use Rattle.verifier.specs.Outcome.{refused-lent, answered}
 use Rattle.sizes.specs.Lent.{lentRow, lent-room}
 use Rattle.columns.specs.ColumnLaws.{cleared-alike}
@@ -13,17 +14,10 @@ use mathlib.Core.Path.{_≡_, sym, ap, ap₂, _∙_}
 use borrow.Author.Needs.{needs}
 use Rattle.verifier.proofs.verify_expr.Statement.{statement}
 use Rattle.verifier.proofs.verify_expr.Tie as tie
-use Rattle.verifier.proofs.verify_expr.Reads as reads
-use Rattle.verifier.proofs.verify_expr.Lts as lts
-use Rattle.columns.proofs.clear.Reads as clear-reads
-use Rattle.sizes.proofs.lent.Reads as lent-reads
-use Rattle.verifier.proofs.verified.Reads as verified-reads
 
--- src/lib.rt:35:9
 lent-requires : tie.Need-lent-requires
 lent-requires c κs = search needs
 
--- src/lib.rt:37:9
 returns : tie.Need-returns
 returns c =
     let s = c .before .before .before .before .before .before in
@@ -34,7 +28,6 @@ returns c =
     let refused : lentRow ns ps (length work) .number ≢ 0 = λ e. omega (arith, c .if1 .taken, ap (λ (r : Refusal). r .number) first, e) in
     ap (λ (r : Refusal). verified r work) first ∙ refused-lent ns ps work refused
 
--- src/lib.rt:39:9
 verified-requires : tie.Need-verified-requires
 verified-requires c κs =
     let s = c .before .before .before .before .before .before .before in
@@ -46,15 +39,12 @@ verified-requires c κs =
     let roomy = lent-room ns ps (length work) passed in
     (roomy .0, omega (arith, roomy .1))
 
--- src/lib.rt:40:5
 clear-requires : tie.Need-clear-requires
 clear-requires c κs = search needs
 
--- src/lib.rt:32:1
 same-length : tie.Need-same-length
 same-length c = search needs
 
--- src/lib.rt:32:1
 returns-2 : tie.Need-returns-2
 returns-2 c =
     let s = c .before .before .before .before .before .before .before .before .before .before .before .before .before .before in

@@ -1,3 +1,4 @@
+-- `all_known` meets its contract: the loop has passed known bytes only, so what is left decides.
 use Rattle.lists.specs.Scan.{every-stop, every-more, every-done}
 use Rattle.meaning.specs.Laws.TestLaws.{is-le, is-above}
 use Rattle.meaning.specs.Rules.Refusals.{every}
@@ -12,8 +13,6 @@ use Prim.Native.Nat.{ℕ, _≤_, _-_}
 use borrow.Author.Needs.{needs}
 use Rattle.evaluator.proofs.assignment.all_known.Statement.{statement}
 use Rattle.evaluator.proofs.assignment.all_known.Tie as tie
-use Rattle.evaluator.proofs.assignment.all_known.Reads as reads
-use Rattle.evaluator.proofs.assignment.all_known.Lts as lts
 
 abbrev Inv-loop : tie.InvT-loop
 Inv-loop bytes at₀ at-end at =
@@ -22,15 +21,12 @@ Inv-loop bytes at₀ at-end at =
 abbrev μ-loop : tie.MeasureT-loop
 μ-loop bytes at₀ at-end at = at-end - at
 
--- src/assignment.rt:21:5
 loop-holds : tie.Need-loop-holds Inv-loop μ-loop
 loop-holds c = (omega arith, refl, refl)
 
--- src/assignment.rt:22:12
 shared-slice-read-if1 : tie.Need-shared-slice-read-if1 Inv-loop μ-loop
 shared-slice-read-if1 c = search needs
 
--- src/assignment.rt:23:13
 returns : tie.Need-returns Inv-loop μ-loop
 returns c =
     let l = c .before .before .before .loop in
@@ -39,15 +35,12 @@ returns c =
     let high : leb here undrivenByte ≡ false = is-above here undrivenByte .1 (omega (arith, c .if1 .taken)) in
     sym (every-stop 0 (λ b. leb b undrivenByte) bs (l .at) (omega arith) high) ∙ l .inv .2
 
--- src/assignment.rt:21:9
 add-at : tie.Need-add-at Inv-loop μ-loop
 add-at c = search needs
 
--- src/assignment.rt:21:5
 loop-less : tie.Need-loop-less Inv-loop μ-loop
 loop-less c = search needs
 
--- src/assignment.rt:21:5
 loop-again : tie.Need-loop-again Inv-loop μ-loop
 loop-again c =
     let l = c .before .before .before .loop in
@@ -56,7 +49,6 @@ loop-again c =
     let low : leb here undrivenByte ≡ true = is-le here undrivenByte .1 (omega (arith, c .if1 .left)) in
     (omega arith, l .inv .1, every-more 0 (λ b. leb b undrivenByte) bs (l .at) (omega arith) low ∙ l .inv .2)
 
--- src/assignment.rt:18:1
 returns-2 : tie.Need-returns-2 Inv-loop μ-loop
 returns-2 c =
     let l = c .before .loop in

@@ -1,3 +1,4 @@
+-- `is_assignment` meets its contract: the length, then the bytes.
 use Rattle.meaning.specs.Rules.Assignments.{isAssignment}
 use Rattle.meaning.specs.Rules.Limits.{variableCount}
 use native.Mathlib.Omega.{arith}
@@ -11,22 +12,16 @@ use borrow.Author.Tests.{le-leb, lt-leb}
 use borrow.Author.Needs.{needs}
 use Rattle.evaluator.proofs.assignment.is_assignment.Statement.{statement}
 use Rattle.evaluator.proofs.assignment.is_assignment.Tie as tie
-use Rattle.evaluator.proofs.assignment.is_assignment.Reads as reads
-use Rattle.evaluator.proofs.assignment.is_assignment.Lts as lts
-use Rattle.evaluator.proofs.assignment.all_known.Reads as all-known-reads
 
--- src/assignment.rt:14:38
 all-known-requires : tie.Need-all-known-requires
 all-known-requires c κs = search needs
 
--- src/assignment.rt:11:1
 returns : tie.Need-returns
 unfolding isAssignment
 returns c = let bs : List ℕ = c .before .before .before .args .bytes .now in
     let few : leb (length bs) variableCount ≡ true = le-leb (length bs) variableCount (omega arith) in
     rw few (c .all-known .ensures)
 
--- src/assignment.rt:11:1
 returns-2 : tie.Need-returns-2
 unfolding isAssignment
 returns-2 c = let bs : List ℕ = c .before .before .args .bytes .now in

@@ -1,3 +1,4 @@
+-- `write_pairs` meets its contract: the loop has written the pairs below it, and left what is behind them.
 use Rattle.evaluator.specs.Output.{rowPairs, rows-next, rows-written}
 use native.Mathlib.Omega.{arith}
 use mathlib.Core.Path.{_≡_, refl, ap, _∙_}
@@ -7,9 +8,6 @@ use Prim.Native.Nat.{ℕ, _+_, _*_, _≤_, _-_}
 use borrow.Author.Needs.{needs}
 use Rattle.evaluator.proofs.output.write_pairs.Statement.{statement}
 use Rattle.evaluator.proofs.output.write_pairs.Tie as tie
-use Rattle.evaluator.proofs.output.write_pairs.Reads as reads
-use Rattle.evaluator.proofs.output.write_pairs.Lts as lts
-use Rattle.columns.proofs.get.Reads as get-reads
 
 abbrev Inv-loop : tie.InvT-loop
 Inv-loop work n out₀ i₀ out i =
@@ -18,82 +16,67 @@ Inv-loop work n out₀ i₀ out i =
 abbrev μ-loop : tie.MeasureT-loop
 μ-loop work n out₀ i₀ out i = n - i
 
--- src/output.rt:22:5
 loop-holds : tie.Need-loop-holds Inv-loop μ-loop
 loop-holds c = (omega arith, refl, refl)
 
--- src/output.rt:23:25
 get-requires : tie.Need-get-requires Inv-loop μ-loop
 get-requires c κs =
     let s = c .before .before .before .before in
     omega (arith, c .before .loop .inv .1, s .pre .0, s .pre .1)
 
--- src/output.rt:23:13
 mul-out : tie.Need-mul-out Inv-loop μ-loop
 mul-out c =
     let s = c .before .before .before .before .before in
     omega (arith, c .before .before .loop .inv .1, s .pre .0, s .pre .1)
 
--- src/output.rt:23:9
 mul-out-2 : tie.Need-mul-out-2 Inv-loop μ-loop
 mul-out-2 c =
     let s = c .before .before .before .before .before in
     omega (arith, c .before .before .loop .inv .1, s .pre .0, s .pre .1)
 
--- src/output.rt:23:9
 slice-write-out : tie.Need-slice-write-out Inv-loop μ-loop
 slice-write-out c =
     let s = c .before .before .before .before .before in
     omega (arith, c .before .before .loop .inv .1, s .pre .0, s .pre .1)
 
--- src/output.rt:24:29
 get-requires-2 : tie.Need-get-requires-2 Inv-loop μ-loop
 get-requires-2 c κs =
     let s = c .before .before .before .before .before in
     omega (arith, c .before .before .loop .inv .1, s .pre .0, s .pre .1)
 
--- src/output.rt:24:13
 mul-out-3 : tie.Need-mul-out-3 Inv-loop μ-loop
 mul-out-3 c =
     let s = c .before .before .before .before .before .before in
     omega (arith, c .before .before .before .loop .inv .1, s .pre .0, s .pre .1)
 
--- src/output.rt:24:13
 add-out : tie.Need-add-out Inv-loop μ-loop
 add-out c =
     let s = c .before .before .before .before .before .before in
     omega (arith, c .before .before .before .loop .inv .1, s .pre .0, s .pre .1)
 
--- src/output.rt:24:9
 mul-out-4 : tie.Need-mul-out-4 Inv-loop μ-loop
 mul-out-4 c = search needs
 
--- src/output.rt:24:9
 slice-write-out-2 : tie.Need-slice-write-out-2 Inv-loop μ-loop
 slice-write-out-2 c =
     let s = c .before .before .before .before .before .before in
     simp length-set (omega (arith, c .before .before .before .loop .inv .1, s .pre .0, s .pre .1))
 
--- src/output.rt:22:9
 add-i : tie.Need-add-i Inv-loop μ-loop
 add-i c = search needs
 
--- src/output.rt:22:5
 loop-less : tie.Need-loop-less Inv-loop μ-loop
 loop-less c = search needs
 
--- src/output.rt:22:5
 loop-again : tie.Need-loop-again Inv-loop μ-loop
 loop-again c =
     let s = c .before .before .before .before .before .before in
     let l = c .before .before .before .loop in
     (omega arith, simp length-set (l .inv .1), rw (l .inv .2) (rows-next (s .args .work .now) (s .args .out .now) (l .i) (c .before .get .result) (c .get2 .result) (c .before .get .ensures) (c .get2 .ensures) (omega (arith, l .inv .1, s .pre .0, s .pre .1))))
 
--- src/output.rt:17:1
 same-length : tie.Need-same-length Inv-loop μ-loop
 same-length c = c .before .loop .inv .1
 
--- src/output.rt:17:1
 returns : tie.Need-returns Inv-loop μ-loop
 returns c =
     let s = c .before .before .before .before in

@@ -1,3 +1,4 @@
+-- `evaluated` meets its contract: the count stays below the turns.
 use native.Mathlib.Omega.{arith}
 use lib.ListN.{length}
 use Prim.Native.Nat.{_-_, _≤_}
@@ -5,12 +6,6 @@ use mathlib.Core.Path.{_≡_, refl, _∙_}
 use borrow.Author.Needs.{needs}
 use Rattle.repeat_call.proofs.calls.evaluated.Statement.{statement}
 use Rattle.repeat_call.proofs.calls.evaluated.Tie as tie
-use Rattle.repeat_call.proofs.calls.evaluated.Reads as reads
-use Rattle.repeat_call.proofs.calls.evaluated.Lts as lts
-use Rattle.answer_words.proofs.words_of.Reads as words-of-reads
-use Rattle.evaluator.proofs.eval.Reads as eval-reads
-use Rattle.repeat_call.proofs.calls.drive.Reads as drive-reads
-use Rattle.repeat_call.proofs.calls.one_if_not_0.Reads as one-if-not-0-reads
 
 abbrev Inv-loop : tie.InvT-loop
 Inv-loop repeats nodes pool work₀ refusal₀ bytes₀ out₀ nonzero₀ i₀ work refusal bytes out nonzero i = (i ≤ repeats) × (nonzero ≤ i) × (length work ≡ length work₀) × (length bytes ≡ 20) × (length out ≡ 8192)
@@ -18,61 +13,47 @@ Inv-loop repeats nodes pool work₀ refusal₀ bytes₀ out₀ nonzero₀ i₀ w
 abbrev μ-loop : tie.MeasureT-loop
 μ-loop repeats nodes pool work₀ refusal₀ bytes₀ out₀ nonzero₀ i₀ work refusal bytes out nonzero i = repeats - i
 
--- src/calls.rt:54:5
 loop-holds : tie.Need-loop-holds Inv-loop μ-loop
 loop-holds c = (omega arith, omega arith, refl, refl, refl)
 
--- src/calls.rt:55:15
 slice-aggregate-drive : tie.Need-slice-aggregate-drive Inv-loop μ-loop
 slice-aggregate-drive c = search needs
 
--- src/calls.rt:55:9
 drive-requires : tie.Need-drive-requires Inv-loop μ-loop
 drive-requires c κs = omega (arith, c .before .before .loop .inv .3)
 
--- src/calls.rt:56:39
 slice-aggregate-eval : tie.Need-slice-aggregate-eval Inv-loop μ-loop
 slice-aggregate-eval c = search needs
 
--- src/calls.rt:56:53
 slice-aggregate-eval-2 : tie.Need-slice-aggregate-eval-2 Inv-loop μ-loop
 slice-aggregate-eval-2 c = search needs
 
--- src/calls.rt:56:13
 eval-requires : tie.Need-eval-requires Inv-loop μ-loop
 eval-requires c κs = search needs
 
--- src/calls.rt:59:42
 words-of-requires : tie.Need-words-of-requires Inv-loop μ-loop
 words-of-requires c κs = search needs
 
--- src/calls.rt:59:29
 one-if-not-0-requires : tie.Need-one-if-not-0-requires Inv-loop μ-loop
 one-if-not-0-requires c κs = search needs
 
--- src/calls.rt:59:19
 add-nonzero : tie.Need-add-nonzero Inv-loop μ-loop
 add-nonzero c = omega (arith, c .one-if-not-0 .ensures, c .before .before .before .before .before .before .before .before .before .before .before .before .before .before .loop .inv .1)
 
--- src/calls.rt:54:9
 add-i : tie.Need-add-i Inv-loop μ-loop
 add-i c = search needs
 
--- src/calls.rt:54:5
 loop-less : tie.Need-loop-less Inv-loop μ-loop
 loop-less c = search needs
 
--- src/calls.rt:54:5
 loop-again : tie.Need-loop-again Inv-loop μ-loop
 loop-again c =
     let l = c .before .before .before .before .before .before .before .before .before .before .before .before .before .before .loop in
     (omega arith, omega (arith, c .one-if-not-0 .ensures, l .inv .1), c .before .before .before .before .before .before .eval .kept .1 .1 .1 .0 ∙ l .inv .2, c .before .before .before .before .before .before .before .before .before .before .before .drive .kept .0 ∙ l .inv .3, c .before .before .before .before .before .before .eval .kept .1 .1 .1 .1 .0 ∙ l .inv .4)
 
--- src/calls.rt:49:1
 same-length : tie.Need-same-length Inv-loop μ-loop
 same-length c = search needs
 
--- src/calls.rt:49:1
 returns : tie.Need-returns Inv-loop μ-loop
 returns c = search needs
 

@@ -1,3 +1,4 @@
+-- `passed` meets its contract: a list past 1, 2, 10 and 3 to 8 is prepared.
 use Rattle.pass.specs.Prepared.{sound-prepares}
 use Rattle.sizes.specs.Lent.{lentRow, lent-room}
 use Rattle.rows.specs.Rows.{Prepared}
@@ -11,21 +12,13 @@ use mathlib.Core.Path.{_≡_, sym, ap, subst, _∙_}
 use borrow.Author.Needs.{needs}
 use Rattle.repeat_call.proofs.calls.passed.Statement.{statement}
 use Rattle.repeat_call.proofs.calls.passed.Tie as tie
-use Rattle.repeat_call.proofs.calls.passed.Reads as reads
-use Rattle.repeat_call.proofs.calls.passed.Lts as lts
-use Rattle.repeat_call.proofs.calls.passes.Reads as passes-reads
-use Rattle.sizes.proofs.lent.Reads as lent-reads
-use Rattle.verifier.proofs.sound.Reads as sound-reads
 
--- src/calls.rt:59:9
 lent-requires : tie.Need-lent-requires
 lent-requires c κs = search needs
 
--- src/calls.rt:61:9
 returns : tie.Need-returns
 returns c = search needs
 
--- src/calls.rt:66:9
 sound-requires : tie.Need-sound-requires
 sound-requires c κs =
     let s = c .before .before .before .before .before .before .before in
@@ -36,15 +29,12 @@ sound-requires c κs =
     let roomy = lent-room ns ps (length work) passed in
     (roomy .0, omega (arith, roomy .1))
 
--- src/calls.rt:68:9
 same-length : tie.Need-same-length
 same-length c = search needs
 
--- src/calls.rt:68:9
 returns-2 : tie.Need-returns-2
 returns-2 c = search needs
 
--- src/calls.rt:75:18
 passes-requires : tie.Need-passes-requires
 passes-requires c κs =
     let s = c .before .before .before .before .before .before .before .before .before .before .before .before .before in
@@ -56,11 +46,9 @@ passes-requires c κs =
     let done : sound ns ps .number ≡ 0 = ap (λ (r : Refusal). r .number) (sym (c .before .before .before .before .before .sound .ensures .0)) ∙ c .before .if2 .left in
     subst (Prepared ns ps 0) (sym (c .before .before .before .before .before .sound .ensures .1)) (sound-prepares ns ps 0 work (omega (arith, roomy .1)) done)
 
--- src/calls.rt:58:1
 same-length-2 : tie.Need-same-length-2
 same-length-2 c = search needs
 
--- src/calls.rt:58:1
 returns-3 : tie.Need-returns-3
 returns-3 c = search needs
 

@@ -1,3 +1,4 @@
+-- `passes` meets its contract: the list stays prepared from pass to pass.
 use Rattle.pass.specs.Written.{still-prepared}
 use Rattle.rows.specs.Rows.{Prepared}
 use Rattle.meaning.specs.Rules.Trees.{nodeCount}
@@ -9,13 +10,6 @@ use mathlib.Core.Path.{_≡_, refl, sym, subst, _∙_}
 use borrow.Author.Needs.{needs}
 use Rattle.repeat_call.proofs.calls.passes.Statement.{statement}
 use Rattle.repeat_call.proofs.calls.passes.Tie as tie
-use Rattle.repeat_call.proofs.calls.passes.Reads as reads
-use Rattle.repeat_call.proofs.calls.passes.Lts as lts
-use Rattle.columns.proofs.get.Reads as get-reads
-use Rattle.nodes.proofs.node_count.Reads as node-count-reads
-use Rattle.pass.proofs.pass.Reads as pass-reads
-use Rattle.repeat_call.proofs.calls.drive.Reads as drive-reads
-use Rattle.repeat_call.proofs.calls.one_if_not_0.Reads as one-if-not-0-reads
 
 abbrev Inv-loop : tie.InvT-loop
 Inv-loop repeats nodes pool work₀ root bytes₀ nonzero₀ i₀ work bytes nonzero i = (i ≤ repeats) × (nonzero ≤ i) × (length work ≡ length work₀) × (length bytes ≡ 20) × Prepared nodes pool 0 work
@@ -23,55 +17,42 @@ Inv-loop repeats nodes pool work₀ root bytes₀ nonzero₀ i₀ work bytes non
 abbrev μ-loop : tie.MeasureT-loop
 μ-loop repeats nodes pool work₀ root bytes₀ nonzero₀ i₀ work bytes nonzero i = repeats - i
 
--- src/calls.rt:82:16
 node-count-requires : tie.Need-node-count-requires Inv-loop μ-loop
 node-count-requires c κs = search needs
 
--- src/calls.rt:82:16
 sub-root : tie.Need-sub-root Inv-loop μ-loop
 sub-root c = omega (arith, c .node-count .ensures, c .before .before .before .before .pre .sound .1 .1 .0)
 
--- src/calls.rt:85:5
 loop-holds : tie.Need-loop-holds Inv-loop μ-loop
 loop-holds c = (omega arith, omega arith, refl, refl, c .before .before .before .before .pre)
 
--- src/calls.rt:86:15
 slice-aggregate-drive : tie.Need-slice-aggregate-drive Inv-loop μ-loop
 slice-aggregate-drive c = search needs
 
--- src/calls.rt:86:9
 drive-requires : tie.Need-drive-requires Inv-loop μ-loop
 drive-requires c κs = omega (arith, c .before .before .loop .inv .3)
 
--- src/calls.rt:87:27
 slice-aggregate-pass : tie.Need-slice-aggregate-pass Inv-loop μ-loop
 slice-aggregate-pass c = search needs
 
--- src/calls.rt:87:9
 pass-requires : tie.Need-pass-requires Inv-loop μ-loop
 pass-requires c κs = c .before .before .before .before .before .before .loop .inv .4
 
--- src/calls.rt:88:42
 get-requires : tie.Need-get-requires Inv-loop μ-loop
 get-requires c κs = omega (arith, c .before .before .before .pass .kept .1 .1 .1 .1 .0, c .before .before .before .before .before .before .before .before .before .before .before .node-count .ensures, c .before .before .before .before .before .before .before .before .before .before .loop .inv .4 .room, c .before .before .before .before .before .before .before .before .before .before .before .before .before .before .before .pre .sound .1 .1 .0)
 
--- src/calls.rt:88:29
 one-if-not-0-requires : tie.Need-one-if-not-0-requires Inv-loop μ-loop
 one-if-not-0-requires c κs = search needs
 
--- src/calls.rt:88:19
 add-nonzero : tie.Need-add-nonzero Inv-loop μ-loop
 add-nonzero c = omega (arith, c .one-if-not-0 .ensures, c .before .before .before .before .before .before .before .before .before .before .before .before .loop .inv .1)
 
--- src/calls.rt:85:9
 add-i : tie.Need-add-i Inv-loop μ-loop
 add-i c = search needs
 
--- src/calls.rt:85:5
 loop-less : tie.Need-loop-less Inv-loop μ-loop
 loop-less c = search needs
 
--- src/calls.rt:85:5
 loop-again : tie.Need-loop-again Inv-loop μ-loop
 loop-again c =
     let s = c .before .before .before .before .before .before .before .before .before .before .before .before .before .before .before .before .before in
@@ -80,11 +61,9 @@ loop-again c =
     let l = c .before .before .before .before .before .before .before .before .before .before .before .before .loop in
     (omega arith, omega (arith, c .one-if-not-0 .ensures, l .inv .1), c .before .before .before .before .before .pass .kept .1 .1 .1 .1 .0 ∙ l .inv .2, c .before .before .before .before .before .before .before .before .before .drive .kept .0 ∙ l .inv .3, subst (Prepared ns ps 0) (sym (c .before .before .before .before .before .pass .ensures)) (still-prepared ns ps _ 0 (l .work) (l .inv .4) (nodeCount ns)))
 
--- src/calls.rt:79:1
 same-length : tie.Need-same-length Inv-loop μ-loop
 same-length c = search needs
 
--- src/calls.rt:79:1
 returns : tie.Need-returns Inv-loop μ-loop
 returns c = search needs
 

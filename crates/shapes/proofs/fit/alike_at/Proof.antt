@@ -8,29 +8,21 @@ use native.Mathlib.Omega.{arith}
 use Rattle.meaning.specs.Rules.Evaluable.{shapeCode, nthShape}
 use Rattle.shapes.proofs.fit.alike_at.Statement.{statement}
 use Rattle.shapes.proofs.fit.alike_at.Tie as tie
-use Rattle.shapes.proofs.fit.alike_at.Reads as reads
-use Rattle.shapes.proofs.fit.alike_at.Lts as lts
-use Rattle.shapes.proofs.step.nth_shape.Reads as nth-shape-reads
 
--- src/fit.rt:108:9
 nth-shape-requires : tie.Need-nth-shape-requires
 nth-shape-requires c κs = c .before .before .pre .1
 
--- src/fit.rt:110:9
 returns : tie.Need-returns
 returns c = λ ss h.
     let code : shapeCode (nthShape ss (c .before .before .before .before .args .at)) ≡ 0 = sym (c .before .nth-shape .ensures ss h) ∙ c .if1 .taken in
     rw code
 
--- src/fit.rt:112:46
 add-nth-shape : tie.Need-add-nth-shape
 add-nth-shape c = search needs
 
--- src/fit.rt:112:14
 nth-shape-requires-2 : tie.Need-nth-shape-requires-2
 nth-shape-requires-2 c κs = c .before .before .before .before .pre .1
 
--- src/fit.rt:103:1
 returns-2 : tie.Need-returns-2
 returns-2 c = λ ss h.
     let at : ℕ = c .before .before .before .before .before .args .at in

@@ -13,10 +13,6 @@ use Rattle.lists.specs.Scan.{every-stop, every-more, every-done}
 use Rattle.shapes.specs.Shapes.{Holds, holds-length, stands}
 use Rattle.shapes.proofs.fit.all_stand.Statement.{statement}
 use Rattle.shapes.proofs.fit.all_stand.Tie as tie
-use Rattle.shapes.proofs.fit.all_stand.Reads as reads
-use Rattle.shapes.proofs.fit.all_stand.Lts as lts
-use Rattle.shapes.proofs.fit.stands.Reads as stands-reads
-use Rattle.shapes.proofs.step.nth_shape.Reads as nth-shape-reads
 
 abbrev Inv-loop : tie.InvT-loop
 Inv-loop children base work from bits-only at₀ at = (ss : List Shape) → Holds work base children ss → every (stands bits-only) (drop at ss) ≡ every (stands bits-only) (drop from ss)
@@ -24,19 +20,15 @@ Inv-loop children base work from bits-only at₀ at = (ss : List Shape) → Hold
 abbrev μ-loop : tie.MeasureT-loop
 μ-loop children base work from bits-only at₀ at = length children - at
 
--- src/fit.rt:121:5
 loop-holds : tie.Need-loop-holds Inv-loop μ-loop
 loop-holds c = λ ss h. refl
 
--- src/fit.rt:122:20
 nth-shape-requires : tie.Need-nth-shape-requires Inv-loop μ-loop
 nth-shape-requires c κs = c .before .before .before .before .pre
 
--- src/fit.rt:122:13
 stands-requires : tie.Need-stands-requires Inv-loop μ-loop
 stands-requires c κs = search needs
 
--- src/fit.rt:123:13
 returns : tie.Need-returns Inv-loop μ-loop
 returns c =
     let s = c .before .before .before .before .before .before .before in
@@ -48,15 +40,12 @@ returns c =
     let asked : c .before .stands .result ≡ stands bitsOnly (nthShape ss at) = c .before .stands .ensures ∙ ap (λ (k : ℕ). cond bitsOnly (eqb k 1) (ltb 0 k)) (c .before .before .nth-shape .ensures ss h) in
     sym (every-stop bit (stands bitsOnly) ss at (omega (arith, size)) (told-no asked (c .if1 .taken))) ∙ l .inv ss h
 
--- src/fit.rt:125:14
 add-at : tie.Need-add-at Inv-loop μ-loop
 add-at c = search needs
 
--- src/fit.rt:121:5
 loop-less : tie.Need-loop-less Inv-loop μ-loop
 loop-less c = search needs
 
--- src/fit.rt:121:5
 loop-again : tie.Need-loop-again Inv-loop μ-loop
 loop-again c =
     let s = c .before .before .before .before .before .before .before in
@@ -68,7 +57,6 @@ loop-again c =
     let asked : c .before .stands .result ≡ stands bitsOnly (nthShape ss at) = c .before .stands .ensures ∙ ap (λ (k : ℕ). cond bitsOnly (eqb k 1) (ltb 0 k)) (c .before .before .nth-shape .ensures ss h) in
     every-more bit (stands bitsOnly) ss at (omega (arith, size)) (told-yes asked (c .if1 .left)) ∙ l .inv ss h
 
--- src/fit.rt:116:1
 returns-2 : tie.Need-returns-2 Inv-loop μ-loop
 returns-2 c =
     let s = c .before .before .before .before in

@@ -8,82 +8,58 @@ use Rattle.meaning.specs.Rules.Kinds.{kindOf}
 use Rattle.lists.specs.Cases.{range}
 use Rattle.shapes.proofs.fit.fits.Statement.{statement}
 use Rattle.shapes.proofs.fit.fits.Tie as tie
-use Rattle.shapes.proofs.fit.fits.Reads as reads
-use Rattle.shapes.proofs.fit.fits.Lts as lts
-use Rattle.shapes.proofs.fit.alike_at.Reads as alike-at-reads
-use Rattle.shapes.proofs.fit.all_stand.Reads as all-stand-reads
-use Rattle.shapes.proofs.fit.mux_fits.Reads as mux-fits-reads
-use Rattle.shapes.proofs.step.nth_shape.Reads as nth-shape-reads
 
--- src/fit.rt:78:14
 alike-at-requires : tie.Need-alike-at-requires
 alike-at-requires c κs = (omega arith, c .before .before .before .pre .1)
 
--- src/fit.rt:79:14
 mux-fits-requires : tie.Need-mux-fits-requires
 mux-fits-requires c κs = c .before .before .before .pre .1
 
--- src/fit.rt:80:14
 alike-at-requires-2 : tie.Need-alike-at-requires-2
 alike-at-requires-2 c κs = (omega arith, c .before .before .before .pre .1)
 
--- src/fit.rt:81:14
 alike-at-requires-3 : tie.Need-alike-at-requires-3
 alike-at-requires-3 c κs = (omega arith, c .before .before .before .pre .1)
 
--- src/fit.rt:82:14
 nth-shape-requires : tie.Need-nth-shape-requires
 nth-shape-requires c κs = c .before .before .before .pre .1
 
--- src/fit.rt:83:14
 all-stand-requires : tie.Need-all-stand-requires
 all-stand-requires c κs = c .before .before .before .pre .1
 
--- src/fit.rt:84:15
 all-stand-requires-2 : tie.Need-all-stand-requires-2
 all-stand-requires-2 c κs = c .before .before .before .pre .1
 
--- src/fit.rt:86:15
 nth-shape-requires-2 : tie.Need-nth-shape-requires-2
 nth-shape-requires-2 c κs = c .before .before .before .pre .1
 
--- src/fit.rt:85:20
 all-stand-requires-3 : tie.Need-all-stand-requires-3
 all-stand-requires-3 c κs = c .before .before .before .before .before .pre .1
 
--- src/fit.rt:72:1
 returns : tie.Need-returns
 returns c = λ ss h. c .alike-at .ensures ss h ∙ rw (c .before .match .keys1)
 
--- src/fit.rt:72:1
 returns-2 : tie.Need-returns-2
 returns-2 c = λ ss h. c .mux-fits .ensures ss h ∙ rw (c .before .match .keys2)
 
--- src/fit.rt:72:1
 returns-3 : tie.Need-returns-3
 returns-3 c = λ ss h. c .alike-at2 .ensures ss h ∙ rw (c .before .match .keys3)
 
--- src/fit.rt:72:1
 returns-4 : tie.Need-returns-4
 returns-4 c = λ ss h. c .alike-at3 .ensures ss h ∙ rw (c .before .match .keys4)
 
--- src/fit.rt:72:1
 returns-5 : tie.Need-returns-5
 returns-5 c = λ ss h. ap (ltb 0) (c .nth-shape .ensures ss h) ∙ rw (c .before .match .keys5)
 
--- src/fit.rt:72:1
 returns-6 : tie.Need-returns-6
 returns-6 c = λ ss h. c .all-stand .ensures ss h ∙ rw (c .before .match .keys6)
 
--- src/fit.rt:72:1
 returns-7 : tie.Need-returns-7
 returns-7 c = λ ss h. c .all-stand2 .ensures ss h ∙ rw (c .before .match .keys7)
 
--- src/fit.rt:72:1
 returns-8 : tie.Need-returns-8
 returns-8 c = λ ss h. ap (ltb 0) (c .nth-shape2 .ensures ss h) ∙ rw (c .before .match .keys8)
 
--- src/fit.rt:72:1
 returns-9 : tie.Need-returns-9
 returns-9 c =
     let s = c .before .before .before .before .before .before in
@@ -93,7 +69,6 @@ returns-9 c =
     ((λ e. absurd (c .before .before .before .match .rest .0 .0 .0 .0 .0 .0 .0 .1 (sym e))), ((λ e. absurd (c .before .before .before .match .rest .0 .0 .0 .0 .0 .0 .1 (sym e))), ((λ e. absurd (c .before .before .before .match .rest .0 .0 .0 .0 .0 .1 (sym e))), ((λ e. absurd (c .before .before .before .match .rest .0 .0 .0 .0 .1 (sym e))), ((λ e. absurd (c .before .before .before .match .rest .0 .0 .0 .1 (sym e))), ((λ e. absurd (c .before .before .before .match .rest .0 .0 .1 (sym e))), ((λ e. absurd (c .before .before .before .match .rest .0 .1 (sym e))), ((λ e. c .all-stand3 .ensures ss h), ((λ e. c .all-stand3 .ensures ss h), ((λ e. c .all-stand3 .ensures ss h), ((λ e. c .all-stand3 .ensures ss h), tt)))))))))))
     kind (omega arith) (omega (arith, s .pre .0)) refl
 
--- src/fit.rt:72:1
 returns-10 : tie.Need-returns-10
 returns-10 c =
     let s = c .before .before .before .before in
@@ -103,7 +78,6 @@ returns-10 c =
     ((λ e. refl), ((λ e. refl), ((λ e. refl), ((λ e. refl), tt))))
     kind (omega arith) (omega (arith, s .pre .0)) refl
 
--- src/fit.rt:72:1
 returns-11 : tie.Need-returns-11
 returns-11 c =
     let s = c .before .before .before .before .before in

@@ -5,26 +5,18 @@ use native.Mathlib.Omega.{arith}
 use Rattle.meaning.specs.Rules.Evaluable.{shapeCode, nthShape, isBit}
 use Rattle.shapes.proofs.fit.mux_fits.Statement.{statement}
 use Rattle.shapes.proofs.fit.mux_fits.Tie as tie
-use Rattle.shapes.proofs.fit.mux_fits.Reads as reads
-use Rattle.shapes.proofs.fit.mux_fits.Lts as lts
-use Rattle.shapes.proofs.fit.alike_at.Reads as alike-at-reads
-use Rattle.shapes.proofs.step.nth_shape.Reads as nth-shape-reads
 
--- src/fit.rt:96:8
 nth-shape-requires : tie.Need-nth-shape-requires
 nth-shape-requires c κs = c .before .before .pre
 
--- src/fit.rt:97:9
 returns : tie.Need-returns
 returns c = λ ss h.
     let other : isBit (nthShape ss 0) ≡ false = ne-eqb (shapeCode (nthShape ss 0)) 1 (λ e. c .if1 .taken (c .before .nth-shape .ensures ss h ∙ e)) in
     rw other
 
--- src/fit.rt:99:5
 alike-at-requires : tie.Need-alike-at-requires
 alike-at-requires c κs = (omega arith, c .before .before .before .before .pre)
 
--- src/fit.rt:92:1
 returns-2 : tie.Need-returns-2
 returns-2 c = λ ss h.
     let one : isBit (nthShape ss 0) ≡ true = eq-eqb (shapeCode (nthShape ss 0)) 1 (sym (c .before .before .nth-shape .ensures ss h) ∙ c .before .if1 .left) in

@@ -10,20 +10,13 @@ use Rattle.meaning.specs.Rules.Trees.{nodeCount, kindAt}
 use Rattle.meaning.specs.Rules.Kinds.{programWord}
 use Rattle.shapes.proofs.fit.root_program.Statement.{statement}
 use Rattle.shapes.proofs.fit.root_program.Tie as tie
-use Rattle.shapes.proofs.fit.root_program.Reads as reads
-use Rattle.shapes.proofs.fit.root_program.Lts as lts
-use Rattle.nodes.proofs.kind_of.Reads as kind-of-reads
-use Rattle.nodes.proofs.node_count.Reads as node-count-reads
 
--- src/fit.rt:64:8
 add-if1 : tie.Need-add-if1
 add-if1 c = search needs
 
--- src/fit.rt:64:17
 node-count-requires : tie.Need-node-count-requires
 node-count-requires c κs = search needs
 
--- src/fit.rt:65:9
 returns : tie.Need-returns
 returns c =
     let s = c .before .before .before in
@@ -32,11 +25,9 @@ returns c =
     let inner : eqb (suc i) (nodeCount ns) ≡ false = ne-eqb (suc i) (nodeCount ns) (λ e. omega (arith, c .if1 .taken, c .before .node-count .ensures, e)) in
     rw inner
 
--- src/fit.rt:67:5
 kind-of-requires : tie.Need-kind-of-requires
 kind-of-requires c κs = search needs
 
--- src/fit.rt:60:1
 returns-2 : tie.Need-returns-2
 returns-2 c =
     let s = c .before .before .before .before in

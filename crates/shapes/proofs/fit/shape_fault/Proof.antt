@@ -15,14 +15,7 @@ use Rattle.lists.specs.Laid.{part-fits}
 use Rattle.shapes.specs.Shapes.{Holds, childShapes, children-hold, child-rows, unreached, reached}
 use Rattle.shapes.proofs.fit.shape_fault.Statement.{statement}
 use Rattle.shapes.proofs.fit.shape_fault.Tie as tie
-use Rattle.shapes.proofs.fit.shape_fault.Reads as reads
-use Rattle.shapes.proofs.fit.shape_fault.Lts as lts
-use Rattle.lists.proofs.children.children_of.Reads as children-of-reads
-use Rattle.nodes.proofs.kind_of.Reads as kind-of-reads
-use Rattle.shapes.proofs.fit.fits.Reads as fits-reads
-use Rattle.shapes.proofs.fit.root_program.Reads as root-program-reads
 
--- src/fit.rt:47:9
 returns : tie.Need-returns
 returns c =
     let s = c .before .before .before .before in
@@ -36,11 +29,9 @@ returns c =
     let mark : s .args .mark ≡ markOf ns ps i = s .pre .1 .1 .1 .0 in
     sym (unreached ns ps i (sym mark ∙ c .if1 .taken))
 
--- src/fit.rt:49:9
 kind-of-requires : tie.Need-kind-of-requires
 kind-of-requires c κs = search needs
 
--- src/fit.rt:50:20
 children-of-requires : tie.Need-children-of-requires
 children-of-requires c κs =
     let s = c .before .before .before .before .before in
@@ -53,7 +44,6 @@ children-of-requires c κs =
     let well : WellLaid ns ps i = s .pre .0 i inside in
     let mark : s .args .mark ≡ markOf ns ps i = s .pre .1 .1 .1 .0 in (inside, part-fits ns ps i well)
 
--- src/fit.rt:50:9
 fits-requires : tie.Need-fits-requires
 fits-requires c κs =
     let s = c .before .before .before .before .before .before in
@@ -68,7 +58,6 @@ fits-requires c κs =
     let known : kindAt ns i ≤ cycleWord = well .0 in
     (omega (arith, c .before .kind-of .ensures, known), rw (c .children-of .ensures) (child-rows ns ps work base i well inside (s .pre .1 .1 .0)))
 
--- src/fit.rt:51:9
 returns-2 : tie.Need-returns-2
 returns-2 c =
     let s = c .before .before .before .before .before .before .before .before in
@@ -87,11 +76,9 @@ returns-2 c =
     let fit : fits (kindOf (kindAt ns i)) (childShapes ns ps i) ≡ false = told-no asked (c .if2 .taken) in
     sym (reached ns ps i false (isRoot ns i && eqb (kindAt ns i) programWord) well (omega (arith, mark)) fit refl)
 
--- src/fit.rt:53:8
 root-program-requires : tie.Need-root-program-requires
 root-program-requires c κs = search needs
 
--- src/fit.rt:54:9
 returns-3 : tie.Need-returns-3
 returns-3 c =
     let s = c .before .before .before .before .before .before .before .before .before .before in
@@ -111,7 +98,6 @@ returns-3 c =
     let root : (isRoot ns i && eqb (kindAt ns i) programWord) ≡ true = sym (c .before .root-program .ensures) ∙ c .if3 .taken in
     sym (reached ns ps i true true well (omega (arith, mark)) fit root)
 
--- src/fit.rt:31:1
 returns-4 : tie.Need-returns-4
 returns-4 c =
     let s = c .before .before .before .before .before .before .before .before .before .before in

@@ -6,42 +6,31 @@ use Rattle.columns.specs.Columns.{cell, shapeColumn}
 use Rattle.shapes.specs.Shapes.{holds-nth, holds-none}
 use Rattle.shapes.proofs.step.nth_shape.Statement.{statement}
 use Rattle.shapes.proofs.step.nth_shape.Tie as tie
-use Rattle.shapes.proofs.step.nth_shape.Reads as reads
-use Rattle.shapes.proofs.step.nth_shape.Lts as lts
-use Rattle.columns.proofs.get.Reads as get-reads
-use Rattle.nodes.proofs.wide.Reads as wide-reads
 
--- src/step.rt:70:9
 returns : tie.Need-returns
 returns c =
     let s = c .before .before .before in
     λ ss h. holds-none (s .args .work .now) (s .args .base) (s .args .children .now) ss h (s .args .at) (c .if1 .taken)
 
--- src/step.rt:72:34
 mul-wide : tie.Need-mul-wide
 mul-wide c = search needs
 
--- src/step.rt:72:34
 shared-slice-read-wide : tie.Need-shared-slice-read-wide
 shared-slice-read-wide c = search needs
 
--- src/step.rt:72:29
 wide-requires : tie.Need-wide-requires
 wide-requires c κs = search needs
 
--- src/step.rt:72:22
 add-get : tie.Need-add-get
 add-get c =
     let s = c .before .before .before .before .before in
     omega (arith, s .pre (s .args .at) (omega arith), c .wide .ensures .0)
 
--- src/step.rt:72:5
 get-requires : tie.Need-get-requires
 get-requires c κs =
     let s = c .before .before .before .before .before in
     omega (arith, s .pre (s .args .at) (omega arith), c .wide .ensures .0)
 
--- src/step.rt:65:1
 returns-2 : tie.Need-returns-2
 returns-2 c =
     let s = c .before .before .before .before .before .before in

@@ -8,73 +8,54 @@ use Rattle.lists.specs.Cases.{range}
 use Rattle.shapes.specs.Shapes.{holds-length}
 use Rattle.shapes.proofs.step.shape_step.Statement.{statement}
 use Rattle.shapes.proofs.step.shape_step.Tie as tie
-use Rattle.shapes.proofs.step.shape_step.Reads as reads
-use Rattle.shapes.proofs.step.shape_step.Lts as lts
-use Rattle.shapes.proofs.step.nth_shape.Reads as nth-shape-reads
 
--- src/step.rt:53:14
 nth-shape-requires : tie.Need-nth-shape-requires
 nth-shape-requires c κs = c .before .before .before .pre .1
 
--- src/step.rt:54:14
 nth-shape-requires-2 : tie.Need-nth-shape-requires-2
 nth-shape-requires-2 c κs = c .before .before .before .pre .1
 
--- src/step.rt:55:14
 nth-shape-requires-3 : tie.Need-nth-shape-requires-3
 nth-shape-requires-3 c κs = c .before .before .before .pre .1
 
--- src/step.rt:56:14
 nth-shape-requires-4 : tie.Need-nth-shape-requires-4
 nth-shape-requires-4 c κs = c .before .before .before .pre .1
 
--- src/step.rt:57:14
 nth-shape-requires-5 : tie.Need-nth-shape-requires-5
 nth-shape-requires-5 c κs = c .before .before .before .pre .1
 
--- src/step.rt:58:15
 add-result : tie.Need-add-result
 add-result c = search needs
 
--- src/step.rt:59:15
 nth-shape-requires-6 : tie.Need-nth-shape-requires-6
 nth-shape-requires-6 c κs = c .before .before .before .pre .1
 
--- src/step.rt:46:1
 returns : tie.Need-returns
 returns c = λ ss h. rw (c .match .keys1)
 
--- src/step.rt:46:1
 returns-2 : tie.Need-returns-2
 returns-2 c = λ ss h. c .nth-shape .ensures ss h ∙ rw (c .before .match .keys2)
 
--- src/step.rt:46:1
 returns-3 : tie.Need-returns-3
 returns-3 c = λ ss h. c .nth-shape2 .ensures ss h ∙ rw (c .before .match .keys3)
 
--- src/step.rt:46:1
 returns-4 : tie.Need-returns-4
 returns-4 c = λ ss h. c .nth-shape3 .ensures ss h ∙ rw (c .before .match .keys4)
 
--- src/step.rt:46:1
 returns-5 : tie.Need-returns-5
 returns-5 c = λ ss h. c .nth-shape4 .ensures ss h ∙ rw (c .before .match .keys5)
 
--- src/step.rt:46:1
 returns-6 : tie.Need-returns-6
 returns-6 c = λ ss h. c .nth-shape5 .ensures ss h ∙ rw (c .before .match .keys6)
 
--- src/step.rt:46:1
 returns-7 : tie.Need-returns-7
 returns-7 c =
     let s = c .before .before .before in
     λ ss h. rw (c .match .keys7, holds-length (s .args .work .now) (s .args .base) (s .args .children .now) ss h)
 
--- src/step.rt:46:1
 returns-8 : tie.Need-returns-8
 returns-8 c = λ ss h. c .nth-shape6 .ensures ss h ∙ rw (c .before .match .keys8)
 
--- src/step.rt:46:1
 returns-9 : tie.Need-returns-9
 returns-9 c =
     let s = c .before .before .before in

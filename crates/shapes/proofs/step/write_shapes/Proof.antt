@@ -15,13 +15,6 @@ use Rattle.columns.specs.Columns.{place, shapeColumn, Column, withColumn}
 use Rattle.shapes.specs.Shapes.{shapeAt, childShapes, shape-step, children-hold, child-rows}
 use Rattle.shapes.proofs.step.write_shapes.Statement.{statement}
 use Rattle.shapes.proofs.step.write_shapes.Tie as tie
-use Rattle.shapes.proofs.step.write_shapes.Reads as reads
-use Rattle.shapes.proofs.step.write_shapes.Lts as lts
-use Rattle.columns.proofs.put.Reads as put-reads
-use Rattle.lists.proofs.children.children_of.Reads as children-of-reads
-use Rattle.nodes.proofs.kind_of.Reads as kind-of-reads
-use Rattle.nodes.proofs.node_count.Reads as node-count-reads
-use Rattle.shapes.proofs.step.shape_step.Reads as shape-step-reads
 
 abbrev Inv-loop : tie.InvT-loop
 Inv-loop nodes pool base work₀ n i₀ work i = (i ≤ n) × (n ≡ nodeCount nodes) × (work ≡ withColumn shapeColumn base i (shapeAt nodes pool) work₀)
@@ -29,21 +22,17 @@ Inv-loop nodes pool base work₀ n i₀ work i = (i ≤ n) × (n ≡ nodeCount n
 abbrev μ-loop : tie.MeasureT-loop
 μ-loop nodes pool base work₀ n i₀ work i = n - i
 
--- src/step.rt:35:9
 node-count-requires : tie.Need-node-count-requires Inv-loop μ-loop
 node-count-requires c κs = search needs
 
--- src/step.rt:36:5
 loop-holds : tie.Need-loop-holds Inv-loop μ-loop
 loop-holds c =
     let s = c .before .before .before .before in
     (omega arith, c .node-count .ensures, sym (with-none shapeColumn (s .args .base) (shapeAt (s .args .nodes .now) (s .args .pool .now)) (s .args .work .now)))
 
--- src/step.rt:37:13
 kind-of-requires : tie.Need-kind-of-requires Inv-loop μ-loop
 kind-of-requires c κs = search needs
 
--- src/step.rt:38:13
 children-of-requires : tie.Need-children-of-requires Inv-loop μ-loop
 children-of-requires c κs =
     let s = c .before .before .before .before .before .before .before in
@@ -58,7 +47,6 @@ children-of-requires c κs =
     let inside : i < nodeCount ns = omega arith in
     let well : WellLaid ns ps i = s .pre .0 i inside in (inside, part-fits ns ps i well)
 
--- src/step.rt:39:13
 shape-step-requires : tie.Need-shape-step-requires Inv-loop μ-loop
 shape-step-requires c κs =
     let s = c .before .before .before .before .before .before .before .before .before in
@@ -77,7 +65,6 @@ shape-step-requires c κs =
       rw (c .before .children-of .ensures) (child-rows ns ps (l .work) base i well inside (omega (arith, room, kept))),
     )
 
--- src/step.rt:40:26
 add-put : tie.Need-add-put Inv-loop μ-loop
 add-put c =
     let s = c .before .before .before .before .before .before .before .before .before .before .before in
@@ -92,7 +79,6 @@ add-put c =
     let inside : i < nodeCount ns = omega arith in
     let well : WellLaid ns ps i = s .pre .0 i inside in omega (arith, room, kept, inside)
 
--- src/step.rt:40:9
 put-requires : tie.Need-put-requires Inv-loop μ-loop
 put-requires c κs =
     let s = c .before .before .before .before .before .before .before .before .before .before .before in
@@ -107,15 +93,12 @@ put-requires c κs =
     let inside : i < nodeCount ns = omega arith in
     let well : WellLaid ns ps i = s .pre .0 i inside in omega (arith, room, kept, inside)
 
--- src/step.rt:36:9
 add-i : tie.Need-add-i Inv-loop μ-loop
 add-i c = search needs
 
--- src/step.rt:36:5
 loop-less : tie.Need-loop-less Inv-loop μ-loop
 loop-less c = search needs
 
--- src/step.rt:36:5
 loop-again : tie.Need-loop-again Inv-loop μ-loop
 loop-again c =
     let s = c .before .before .before .before .before .before .before .before .before .before .before .before .before .before in
@@ -140,7 +123,6 @@ loop-again c =
           ∙ sym (with-next shapeColumn base i (shapeAt ns ps) work),
     )
 
--- src/step.rt:30:1
 same-length : tie.Need-same-length Inv-loop μ-loop
 same-length c =
     let s = c .before .before .before .before .before .before in
@@ -153,7 +135,6 @@ same-length c =
     let room : workPerNode * (base + nodeCount ns) ≤ length work = s .pre .1 in
     let kept : length (l .work) ≡ length work = ap length (l .inv .2) ∙ with-length shapeColumn base i (shapeAt ns ps) work in kept
 
--- src/step.rt:30:1
 returns : tie.Need-returns Inv-loop μ-loop
 returns c =
     let s = c .before .before .before .before .before .before in
