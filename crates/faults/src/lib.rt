@@ -10,7 +10,7 @@ use meaning::numbers::NOT_VERIFIED;
 use nodes::datum_of;
 use nodes::kind_of;
 use nodes::wide;
-use tables::rows::table_fits;
+use table_rows::table_fits;
 ghost use mathlib.Core.Path.{_≡_};
 ghost use mathlib.Core.Bool.{Bool, _||_};
 ghost use Prim.Native.Nat.{ℕ, _<_, _≤_};

@@ -3,7 +3,6 @@
 // Rules/Tables; a user makes the calls below, with any numbers and bytes. Each call's contract joins the two: what its
 // answer says, by number and values, is what the definition gives. No call traps: arguments out of range answer OutOfRange.
 mod inputs;
-pub mod rows;
 
 use bits::word_fits;
 use inputs::eval_read;
@@ -12,11 +11,11 @@ use meaning::Cofactors;
 use meaning::LutBit;
 use meaning::Removed;
 use meaning::TableProgram;
-use rows::cofactor;
-use rows::half;
-use rows::ignores;
-use rows::swapped;
-use rows::table_fits;
+use table_rows::cofactor;
+use table_rows::half;
+use table_rows::ignores;
+use table_rows::swapped;
+use table_rows::table_fits;
 ghost use mathlib.Core.Path.{_≡_};
 ghost use Rattle.meaning.specs.Rules.Tables.{lutBitSays, bitVectorSays, removedSays, tableProgramSays, cofactorsSay};
 ghost use Rattle.meaning.specs.Rules.Tables.{evalLut, evalLutBv, toBitvec, removeLsbVar, evalLutConstInput, cofactorsInMsb, swapPos};

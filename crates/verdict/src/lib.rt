@@ -1,11 +1,9 @@
-// The verdict of a comparison (document 002, check.rs, whole): its constructors, its questions, its decision and its
-// name. A method of a type of another crate is refused by the language, so each is a function over `Check` by value.
+// The verdict of a comparison (document 002, check.rs): its constructors, its questions and its decision; `verdict_name`
+// writes its name. A method of a type of another crate is refused by the language, so each is a function over `Check` by
+// value.
 use meaning::Check;
 use meaning::Decision;
-use meaning::Written;
 ghost use mathlib.Core.Path.{_≡_};
-ghost use lib.ListN.{length};
-ghost use lib.Dec.{leb};
 ghost use Rattle.meaning.specs.Rules.Verdict as rules;
 
 // ---- constructors
@@ -78,28 +76,4 @@ pub fn decided(c: Check) -> Decision
         Check::NotEquiv => Decision::No,
         Check::Inconclusive => Decision::Undecided,
     }
-}
-
-// ---- the name
-
-// Stands for `Display`: the verdict's name at the start of the lent slice. Where the slice is too short for the whole
-// name, nothing is written and the answer is number 19 (document 01, "Numbers a call answers with").
-pub fn display(c: Check, out: &mut [u8]) -> Written
-    ensures { λ r. ⌜ rules.displayed r (now (out .exit)) ≡ rules.display c (now (out .entry)) ⌝ }
-{
-    match c {
-        Check::Equiv => write_name(b"Equiv", out),
-        Check::NotEquiv => write_name(b"NotEquiv", out),
-        Check::Inconclusive => write_name(b"Inconclusive", out),
-    }
-}
-
-fn write_name(name: &[u8], out: &mut [u8]) -> Written
-    ensures { λ r. ⌜ rules.displayed r (now (out .exit)) ≡ rules.displayOf (leb (length (now (name .entry))) (length (now (out .entry)))) (now (name .entry)) (now (out .entry)) ⌝ }
-{
-    if out.len() < name.len() {
-        return Written::TooShort;
-    }
-    let count = bytes::copy(name, out);
-    Written::Bytes(count as u64)
 }

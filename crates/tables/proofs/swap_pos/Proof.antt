@@ -5,7 +5,7 @@ use borrow.Author.Tests.{lt-ltb, le-ltb}
 use borrow.Author.Needs.{needs}
 use Rattle.meaning.specs.Laws.BoolLaws.{told-yes, told-no}
 use Rattle.meaning.specs.Rules.Tables as meant
-use Rattle.tables.specs.RowLaws.{fits-operands}
+use Rattle.table_rows.specs.RowLaws.{fits-operands}
 use Rattle.tables.proofs.swap_pos.Statement.{statement}
 use Rattle.tables.proofs.swap_pos.Tie as tie
 

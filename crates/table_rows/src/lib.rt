@@ -1,5 +1,6 @@
 // Programs row by row: the range test, the halves, and the programs made from another's rows. A program over k operands has
-// 2 ^ k rows, row i its bit i (document 01, "Truth-table routines").
+// 2 ^ k rows, row i its bit i (document 01, "Truth-table routines"). The plain meaning is that of meaning's Rules/Tables,
+// and each call's contract is an equation with it. No user calls this crate: `tables` and `faults` do.
 use bits::bit_at;
 use bits::join;
 use bits::low_bits;

@@ -1,10 +1,10 @@
--- `tables::rows::table_fits` meets its contract: at most six operands have at most 64 rows, so the width test decides.
+-- `table_rows::table_fits` meets its contract: at most six operands have at most 64 rows, so the width test decides.
 use mathlib.Core.Path.{_∙_}
 use borrow.Author.Tests.{lt-leb}
 use borrow.Author.Needs.{needs}
-use Rattle.tables.specs.RowLaws.{fits-rows}
-use Rattle.tables.proofs.rows.table_fits.Statement.{statement}
-use Rattle.tables.proofs.rows.table_fits.Tie as tie
+use Rattle.table_rows.specs.RowLaws.{fits-rows}
+use Rattle.table_rows.proofs.table_fits.Statement.{statement}
+use Rattle.table_rows.proofs.table_fits.Tie as tie
 
 returns : tie.Need-returns
 returns c = simp (lt-leb (c .before .args .k) 6 (c .if1 .taken))

@@ -1,11 +1,11 @@
--- `tables::rows::half` meets its contract: a program over k operands has at most 32 rows for k up to 5.
+-- `table_rows::half` meets its contract: a program over k operands has at most 32 rows for k up to 5.
 use mathlib.Core.Path.{_≡_}
 use mathlib.Core.Bool.{true, false}
 use lib.Pow.{pow-mono}
 use native.Mathlib.Omega.{arith}
 use borrow.Author.Needs.{needs}
-use Rattle.tables.proofs.rows.half.Statement.{statement}
-use Rattle.tables.proofs.rows.half.Tie as tie
+use Rattle.table_rows.proofs.half.Statement.{statement}
+use Rattle.table_rows.proofs.half.Tie as tie
 
 power-of-two-requires : tie.Need-power-of-two-requires
 power-of-two-requires c κs = search needs

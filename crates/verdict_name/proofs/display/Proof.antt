@@ -1,8 +1,8 @@
 -- `display` meets its contract: in each arm the verdict is known, and what `write_name` ensures of its name is the definition.
 use Rattle.meaning.specs.Rules.Verdict as rules
 use borrow.Author.Needs.{needs}
-use Rattle.verdict.proofs.display.Statement.{statement}
-use Rattle.verdict.proofs.display.Tie as tie
+use Rattle.verdict_name.proofs.display.Statement.{statement}
+use Rattle.verdict_name.proofs.display.Tie as tie
 
 enum-told : tie.Need-enum-told
 enum-told c = search needs

@@ -1,13 +1,13 @@
--- `tables::rows::swap_bits` meets its contract: there is room for the row with its bits exchanged.
+-- `table_rows::swap_bits` meets its contract: there is room for the row with its bits exchanged.
 use native.Mathlib.Nat.{mod-lt}
 use lib.Pow.{pow-pos, shr-le}
 use mathlib.Core.Path.{_∙_}
 use Prim.Native.Nat.{ℕ, _+_, _*_, _/_, _^_}
 use native.Mathlib.Omega.{arith}
 use borrow.Author.Needs.{needs}
-use Rattle.tables.specs.RowLaws.{room}
-use Rattle.tables.proofs.rows.swap_bits.Statement.{statement}
-use Rattle.tables.proofs.rows.swap_bits.Tie as tie
+use Rattle.table_rows.specs.RowLaws.{room}
+use Rattle.table_rows.proofs.swap_bits.Statement.{statement}
+use Rattle.table_rows.proofs.swap_bits.Tie as tie
 
 add-high : tie.Need-add-high
 add-high c = search needs

@@ -1,8 +1,8 @@
 -- `write_name` meets its contract: each of its two returns is one of the outcomes in Laws.
-use Rattle.verdict.proofs.Laws.{too-short, wrote}
+use Rattle.verdict_name.proofs.Laws.{too-short, wrote}
 use borrow.Author.Needs.{needs}
-use Rattle.verdict.proofs.write_name.Statement.{statement}
-use Rattle.verdict.proofs.write_name.Tie as tie
+use Rattle.verdict_name.proofs.write_name.Statement.{statement}
+use Rattle.verdict_name.proofs.write_name.Tie as tie
 
 returns : tie.Need-returns
 returns c = let s = c .before .before .before in too-short (s .args .name .now) (s .args .out .now) (c .if1 .taken)

@@ -1,4 +1,4 @@
--- `tables::rows::swapped` meets its contract: the loop has made the table of the rows below i.
+-- `table_rows::swapped` meets its contract: the loop has made the table of the rows below i.
 use lib.Pow.{pow-mono}
 use mathlib.Core.Path.{_≡_, refl, _∙_}
 use Prim.Native.Nat.{_-_, _^_, _<_, _≤_}
@@ -6,9 +6,9 @@ use native.Mathlib.Omega.{arith}
 use borrow.Author.Needs.{needs}
 use Rattle.meaning.specs.Rules.Words.{bitAt}
 use Rattle.meaning.specs.Rules.Tables as meant
-use Rattle.tables.specs.RowLaws.{row-room, row-added, swap-lt}
-use Rattle.tables.proofs.rows.swapped.Statement.{statement}
-use Rattle.tables.proofs.rows.swapped.Tie as tie
+use Rattle.table_rows.specs.RowLaws.{row-room, row-added, swap-lt}
+use Rattle.table_rows.proofs.swapped.Statement.{statement}
+use Rattle.table_rows.proofs.swapped.Tie as tie
 
 abbrev Inv-loop : tie.InvT-loop
 Inv-loop p k pos rows made₀ i₀ made i = (i ≤ rows) × (made ≡ meant.table (λ j. bitAt p (meant.swapBits pos j)) i)

@@ -1,8 +1,8 @@
--- `tables::rows::ignores` meets its contract: both cofactors are the same exactly when no pair differs.
+-- `table_rows::ignores` meets its contract: both cofactors are the same exactly when no pair differs.
 use borrow.Author.Needs.{needs}
-use Rattle.tables.specs.RowLaws.{ignores-is}
-use Rattle.tables.proofs.rows.ignores.Statement.{statement}
-use Rattle.tables.proofs.rows.ignores.Tie as tie
+use Rattle.table_rows.specs.RowLaws.{ignores-is}
+use Rattle.table_rows.proofs.ignores.Statement.{statement}
+use Rattle.table_rows.proofs.ignores.Tie as tie
 
 cofactor-requires : tie.Need-cofactor-requires
 cofactor-requires c κs = search needs

@@ -1,12 +1,12 @@
--- `tables::rows::insert_bit` meets its contract: there is room for the row with its bit.
+-- `table_rows::insert_bit` meets its contract: there is room for the row with its bit.
 use native.Mathlib.Nat.{mod-lt}
 use lib.Pow.{pow-pos, shr-le}
 use Prim.Native.Nat.{ℕ, _+_, _*_, _/_, _^_}
 use native.Mathlib.Omega.{arith}
 use borrow.Author.Needs.{needs}
-use Rattle.tables.specs.RowLaws.{room}
-use Rattle.tables.proofs.rows.insert_bit.Statement.{statement}
-use Rattle.tables.proofs.rows.insert_bit.Tie as tie
+use Rattle.table_rows.specs.RowLaws.{room}
+use Rattle.table_rows.proofs.insert_bit.Statement.{statement}
+use Rattle.table_rows.proofs.insert_bit.Tie as tie
 
 shr-join : tie.Need-shr-join
 shr-join c = search needs
