@@ -1,6 +1,7 @@
-// Programs row by row: the range test, the halves, and the programs made from another's rows. A program over k operands has
-// 2 ^ k rows, row i its bit i (document 01, "Truth-table routines"). The plain meaning is that of meaning's Rules/Tables,
-// and each call's contract is an equation with it. No user calls this crate: `tables` and `faults` do.
+// Programs row by row: the range test, the halves, and the programs made from another's rows. A program over k
+// operands has 2 ^ k rows, row i its bit i (document 01, "Truth-table routines"). The plain meaning is that of
+// meaning's Rules/Tables, and each call's contract is an equation with it. No user calls this crate: `tables` and
+// `faults` do.
 use bits::bit_at;
 use bits::join;
 use bits::low_bits;
@@ -12,8 +13,8 @@ ghost use Prim.Native.Nat.{_+_, _^_, _<_, _≤_};
 ghost use Rattle.meaning.specs.Rules.Words.{bitAt};
 ghost use Rattle.meaning.specs.Rules.Tables as meant;
 
-// Inner: is `p` a program over `k` operands, of which there are at most six? Any numbers. The 64 rows of six operands take
-// every word.
+// Inner: is `p` a program over `k` operands, of which there are at most six? Any numbers. The 64 rows of six operands
+// take every word.
 pub fn table_fits(p: u64, k: u64) -> bool
     ensures { λ r. ⌜ r ≡ meant.tableFits p k ⌝ }
 {
@@ -43,7 +44,8 @@ fn insert_bit(q: u64, b: u64, i: u64) -> u64
     join((i >> q) * 2 + b, q, low_bits(i, q))
 }
 
-// Inner: of a program over k + 1 operands, the program over k with the operand at row bit `q` tied to `b`: the rows left, in order.
+// Inner: of a program over k + 1 operands, the program over k with the operand at row bit `q` tied to `b`: the rows
+// left, in order.
 pub fn cofactor(p: u64, k: u64, q: u64, b: u64) -> u64
     requires { ⌜ (k ≤ 5) × (q ≤ k) × (b < 2) ⌝ }
     ensures { λ r. ⌜ r ≡ meant.cofactor p k q b ⌝ }
@@ -56,8 +58,8 @@ pub fn cofactor(p: u64, k: u64, q: u64, b: u64) -> u64
     made
 }
 
-// Inner: of a program over k + 1 operands, does no row pair depend on the operand at row bit `q`? Its two cofactors are then
-// the same program.
+// Inner: of a program over k + 1 operands, does no row pair depend on the operand at row bit `q`? Its two cofactors
+// are then the same program.
 pub fn ignores(p: u64, k: u64, q: u64) -> bool
     requires { ⌜ (k ≤ 5) × (q ≤ k) ⌝ }
     ensures { λ r. ⌜ r ≡ meant.ignores p k q ⌝ }

@@ -1,5 +1,5 @@
-// The name of a verdict (document 002, check.rs, `Display`): written into bytes that the caller lends. The plain meaning is
-// `display` of meaning's Rules/Verdict, with what the lent slice holds afterwards.
+// The name of a verdict (document 002, check.rs, `Display`): written into bytes that the caller lends. The plain
+// meaning is `display` of meaning's Rules/Verdict, with what the lent slice holds afterwards.
 use meaning::Check;
 use meaning::Written;
 ghost use mathlib.Core.Path.{_≡_};
