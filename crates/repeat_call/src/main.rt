@@ -25,6 +25,8 @@ ghost use Prim.Native.Nat.{_≤_};
 ghost use lib.ListN.{length};
 ghost use Rattle.list_room.specs.Room.{nodeRoom, poolRoom, workRoom};
 
+// ---- the list and its work space
+
 // "16 u64 words per node plus 2 per pool entry" (document 01, number 10)
 fn asked(words: usize, entries: usize) -> usize
     requires { ⌜ (words ≤ nodeRoom) × (entries ≤ poolRoom) ⌝ }
@@ -110,6 +112,8 @@ fn start(text: &[u8]) {
         Row::Bad(offset) => malformed(offset),
     }
 }
+
+// ---- what is printed
 
 fn told(given: Tally, repeats: u64) {
     io::write_all(STDOUT_FILENO, b"number ");

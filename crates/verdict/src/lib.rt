@@ -6,6 +6,7 @@ use meaning::Decision;
 ghost use mathlib.Core.Path.{_≡_};
 ghost use Rattle.meaning.specs.Rules.Verdict as rules;
 
+// ---- constructors
 
 pub fn equivalent() -> Check
     ensures { λ r. ⌜ r ≡ Check.Equiv ⌝ }
@@ -25,6 +26,7 @@ pub fn inconclusive() -> Check
     Check::Inconclusive
 }
 
+// ---- questions
 
 pub fn is_equiv(c: Check) -> bool
     ensures { λ r. ⌜ r ≡ rules.isEquiv c ⌝ }
@@ -62,6 +64,7 @@ pub fn is_conclusive(c: Check) -> bool
     !is_inconclusive(c)
 }
 
+// ---- the decision
 
 // Stands for `unwrap` and `expect`, which panic where this answers Undecided (document 01, "Port order and changes of
 // shape").
