@@ -1,4 +1,4 @@
--- `eval_rec` and its three helpers meet their contracts: each descends to a lower number, and each arm is its clause of `step`.
+-- `eval_rec` and the three functions beside it meet their contracts: each descends to a lower number, and each arm is its clause of `step`.
 use Rattle.accepted.specs.Operands.{fixed, lut-takes, bus-takes, bus-size, answers-size, held-operand, lut-operand, bus-member, nor-operands, lut-children, lut-program, mux-failed, mux-arm, arm-lt, registers}
 use Rattle.accepted.specs.Nodes.{answersAt, answer-is, children-length}
 use Rattle.operators.specs.Folds.{RowTo, row-start, row-more, row-fails, row-done, row-lt, BusTo, bus-start, bus-more, bus-done}
