@@ -18,6 +18,7 @@ use Rattle.meaning.specs.Rules.Evaluable.{Shape, bit, program, bus, widthOf, is
 use Rattle.meaning.specs.Rules.Answers.{Assignment, answer, step, nth, blank, busOf, operands, valueOf}
 use Rattle.meaning.specs.Claims.Column.{Sound}
 use Rattle.meaning.specs.Laws.BoolLaws.{true-false, and-left, and-right}
+use Rattle.meaning.specs.Laws.TestLaws.{every-nth}
 use Rattle.operators.specs.Widths.{Within, and-within, xor-within, not-within, nor-within, mux-within, row-within, driven-within, bus-within}
 use Rattle.accepted.specs.Nodes.{answersAt, shapesAt, shapes-length, answers-length, nth-shape, nth-answer, tree-is, answer-is, arity, constant-bit, child-below, child-marked, fitting}
 
@@ -42,11 +43,6 @@ same-shape program (bus n) h = absurd (omega (arith, eqb-true 0 (n + 2) h))
 same-shape (bus m) bit h = absurd (omega (arith, eqb-true (m + 2) 1 h))
 same-shape (bus m) program h = absurd (omega (arith, eqb-true (m + 2) 0 h))
 same-shape (bus m) (bus n) h = ap bus (omega (arith, eqb-true (m + 2) (n + 2) h))
-
-pub every-at : (p : Shape → Bool) (ss : List Shape) (i : ℕ) → every p ss ≡ true → i < length ss → p (nthShape ss i) ≡ true
-every-at p [] i h l = absurd (omega arith)
-every-at p (s ∷ ss) zero h l = and-left (p s) (every p ss) h
-every-at p (s ∷ ss) (suc i) h l = every-at p ss i (and-right (p s) (every p ss) h) (omega arith)
 
 -- two operands, or two arms, of one shape
 pub record Pair (s t : Shape) : Type 0 where
@@ -77,7 +73,7 @@ module _ (α : Assignment) (d : ℕ) (ss : List Shape) (xs : List Answer) (size 
 
   bits-fine : every isBit ss ≡ true → (i : ℕ) → i < length ss → Within 1 (nth xs i)
   bits-fine h i l =
-      subst (λ (s : Shape). Fine s (nth xs i)) (bit-code (nthShape ss i) (every-at isBit ss i h l)) (at i l) refl .1
+      subst (λ (s : Shape). Fine s (nth xs i)) (bit-code (nthShape ss i) (every-nth bit isBit ss i h l)) (at i l) refl .1
 
   step-fine : (κ : Kind) → (κ ≡ Const → d < 2) → mayHave κ (length ss) ≡ true → fits κ ss ≡ true → Fine (shapeStep κ ss) (step α κ d xs)
   step-fine Const k a f l = (omega arith, (refl, k refl))

@@ -42,10 +42,6 @@ unfoldable pub shapesAt : List ℕ → List ℕ → ℕ → List Shape
 shapesAt ns ps n = shapes (childTrees ns ps n)
 
 module _ (f : ℕ → Tree) where
-  pub forest-length : (cs : List ℕ) → length (trees (forest f cs)) ≡ length cs
-  forest-length [] = refl
-  forest-length (c ∷ cs) = ap suc (forest-length cs)
-
   pub shapes-length : (cs : List ℕ) → length (shapes (forest f cs)) ≡ length cs
   shapes-length [] = refl
   shapes-length (c ∷ cs) = ap suc (shapes-length cs)

@@ -2,7 +2,7 @@
 -- answer, and how wide those answers are.
 use Prim.Native.Nat.{ℕ, zero, suc, _^_, _≤_, _<_}
 use mathlib.Core.Path.{_≡_, refl, sym, subst, _∙_}
-use mathlib.Core.Logic.{_≢_}
+use mathlib.Core.Logic.{_≢_, _⊎_, ⊎-elim}
 use mathlib.Core.List.{List, [], _∷_}
 use mathlib.Core.Bool.{Bool, true, false, cond, not, _&&_, _||_}
 use native.Mathlib.Omega.{arith}
@@ -22,10 +22,12 @@ use Rattle.meaning.specs.Rules.Answers.{Assignment, answer, nth, valueOf, muxOf
 use Rattle.meaning.specs.Claims.Column.{Sound}
 use Rattle.meaning.specs.Laws.BoolLaws.{true-false, and-left, and-right, not-is-false, or-left-false, or-right-false}
 use Rattle.meaning.specs.Laws.KindLaws.{register-kind}
+use Rattle.meaning.specs.Laws.RootLaws.{forest-length}
+use Rattle.meaning.specs.Laws.TestLaws.{every-nth}
 use Rattle.lists.specs.Cases.{past}
 use Rattle.operators.specs.Widths.{Held, Alike, held}
-use Rattle.accepted.specs.Nodes.{Logic, childTrees, answersAt, shapesAt, forest-length, shapes-length, answers-length, nth-shape, nth-answer, tree-is, answer-is, arity, child-below, child-marked, logic-kind, not-wrong, fitting}
-use Rattle.accepted.specs.AnswerWidths.{Fine, bit-code, every-at, alike-pair, both-fine, children-fine, sizes, shapes-arity, fine-at}
+use Rattle.accepted.specs.Nodes.{Logic, childTrees, answersAt, shapesAt, shapes-length, answers-length, nth-shape, nth-answer, tree-is, answer-is, arity, child-below, child-marked, logic-kind, not-wrong, fitting}
+use Rattle.accepted.specs.AnswerWidths.{Fine, bit-code, alike-pair, both-fine, children-fine, sizes, shapes-arity, fine-at}
 
 -- ---- does a node of this kind read child i as an operand? A register and an Arg read none, a Lut's first is its program
 abbrev pub takes : Kind → ℕ → Bool
@@ -44,6 +46,13 @@ takes Reg i = false
 takes Arg i = false
 takes Cycle i = ltb i 1
 takes Unknown i = false
+
+-- Nor, And and Xor: the kinds whose two operands are of one shape
+abbrev pub TwoOperands : ℕ → Type 0
+TwoOperands k = (k ≡ 4) ⊎ (k ≡ 6) ⊎ (k ≡ 7)
+
+pub left-is-xor : (k : ℕ) → TwoOperands k → k ≢ 4 → k ≢ 6 → k ≡ 7
+left-is-xor k two n4 n6 = ⊎-elim (λ e. absurd (n4 e)) (⊎-elim (λ e. absurd (n6 e)) (λ e. e)) two
 
 pub record Operand (ns ps : List ℕ) (n i : ℕ) : Type 0 where
   pub inside : i < length (childrenAt ns ps n)
@@ -86,7 +95,7 @@ mux-logic ss (suc (suc (suc i))) h f = absurd (omega arith)
 lut-bit : (ss : List Shape) (i : ℕ) → 0 < i → i < length ss → every isBit (drop 1 ss) ≡ true → isBit (nthShape ss i) ≡ true
 lut-bit [] i h l f = absurd (omega arith)
 lut-bit (s ∷ ss) zero h l f = absurd (omega arith)
-lut-bit (s ∷ ss) (suc i) h l f = every-at isBit ss i f (omega arith)
+lut-bit (s ∷ ss) (suc i) h l f = every-nth bit isBit ss i f (omega arith)
 
 operand-logic : (κ : Kind) (ss : List Shape) (i : ℕ) → takes κ i ≡ true → fits κ ss ≡ true → i < length ss → isLogic (nthShape ss i) ≡ true
 operand-logic Const ss i t f l = absurd (true-false t refl)
@@ -99,7 +108,7 @@ operand-logic And ss i t f l = pair-logic ss i (ltb-true i 2 t) f
 operand-logic Xor ss i t f l = pair-logic ss i (ltb-true i 2 t) f
 operand-logic Not ss i t f l = only-logic ss i (ltb-true i 1 t) f
 operand-logic Lut ss i t f l = bit-logic (nthShape ss i) (lut-bit ss i (ltb-true 0 i t) l f)
-operand-logic Bus ss i t f l = bit-logic (nthShape ss i) (every-at isBit ss i f l)
+operand-logic Bus ss i t f l = bit-logic (nthShape ss i) (every-nth bit isBit ss i f l)
 operand-logic Reg ss i t f l = absurd (true-false t refl)
 operand-logic Arg ss i t f l = absurd (true-false t refl)
 operand-logic Cycle ss i t f l = only-logic ss i (ltb-true i 1 t) f
@@ -150,6 +159,12 @@ module _ (ns ps : List ℕ) (s : Sound ns ps) (n : ℕ) where
       let a : mayHave (kindOf k) (length (childrenAt ns ps n)) ≡ true = rw e at (arity ns ps s n l) in
       let b : length (childrenAt ns ps n) ≡ m = eqb-true (length (childrenAt ns ps n)) m (sym (count (length (childrenAt ns ps n))) ∙ a) in
       record { inside = omega arith; used = rw e t }
+
+  pub two-takes : n < nodeCount ns → TwoOperands (kindAt ns n) → (i : ℕ) → i < 2 → Operand ns ps n i
+  two-takes l two i h =
+      let below : ltb i 2 ≡ true = lt-ltb i 2 h in
+      ⊎-elim (λ e. fixed l 4 2 i e (λ c. refl) below h)
+      (⊎-elim (λ e. fixed l 6 2 i e (λ c. refl) below h) (λ e. fixed l 7 2 i e (λ c. refl) below h)) two
 
   pub lut-takes : (i : ℕ) → kindAt ns n ≡ lutWord → 0 < i → i < length (childrenAt ns ps n) → Operand ns ps n i
   lut-takes i e h l = record { inside = l; used = rw e (lt-ltb 0 i h) }
@@ -224,7 +239,7 @@ module _ (ns ps : List ℕ) (s : Sound ns ps) (n : ℕ) where
       -- Bus: the members are bits
       pub bus-member : (i : ℕ) → kindAt ns n ≡ busWord → i < length (childrenAt ns ps n) → Held 1 (nth (answersAt ns ps α n) i)
       bus-member i e l =
-          bit-operand i (shape-at i l) (every-at isBit (shapesAt ns ps n) i (rw e at (fitting ns ps s n (g .inside) (g .marked))) (shape-at i l))
+          bit-operand i (shape-at i l) (every-nth bit isBit (shapesAt ns ps n) i (rw e at (fitting ns ps s n (g .inside) (g .marked))) (shape-at i l))
 
       -- Nor: both operands are of one width
       pub nor-operands : kindOf (kindAt ns n) ≡ Nor → Alike (nth (answersAt ns ps α n) 0) (nth (answersAt ns ps α n) 1)

@@ -24,6 +24,7 @@ ghost use Rattle.meaning.specs.Rules.Answers.{answer};
 ghost use Rattle.meaning.specs.Rules.Assignments.{given};
 ghost use Rattle.meaning.specs.Claims.Column.{Sound};
 ghost use Rattle.accepted.specs.Nodes.{Logic};
+ghost use Rattle.accepted.specs.Operands.{TwoOperands};
 
 // Inner: the answer of node n, a reachable one that is no Program, of a list past number 8.
 pub fn eval_rec(nodes: &[u32], pool: &[u32], bytes: &[u8], n: usize) -> Answer
@@ -34,28 +35,32 @@ pub fn eval_rec(nodes: &[u32], pool: &[u32], bytes: &[u8], n: usize) -> Answer
     let kind = kind_of(nodes, n);
     match kind {
         0..=3 => leaf_of(nodes, bytes, n),
-        4 => {
-            let x = eval_rec(nodes, pool, bytes, operand(nodes, pool, n, 0));
-            let y = eval_rec(nodes, pool, bytes, operand(nodes, pool, n, 1));
-            nor_of(x, y)
-        }
+        4 => eval_gate(nodes, pool, bytes, n),
         5 => eval_mux(nodes, pool, bytes, n),
-        6 => {
-            let x = eval_rec(nodes, pool, bytes, operand(nodes, pool, n, 0));
-            let y = eval_rec(nodes, pool, bytes, operand(nodes, pool, n, 1));
-            and_of(x, y)
-        }
-        7 => {
-            let x = eval_rec(nodes, pool, bytes, operand(nodes, pool, n, 0));
-            let y = eval_rec(nodes, pool, bytes, operand(nodes, pool, n, 1));
-            xor_of(x, y)
-        }
+        6 => eval_gate(nodes, pool, bytes, n),
+        7 => eval_gate(nodes, pool, bytes, n),
         8 => not_of(eval_rec(nodes, pool, bytes, operand(nodes, pool, n, 0))),
         9 => eval_lut(nodes, pool, bytes, n),
         10 => eval_bus(nodes, pool, bytes, n),
         11..=14 => Answer::Failed(Failure::Register),
         15 => Answer::Failed(Failure::Argument),
         _ => eval_rec(nodes, pool, bytes, operand(nodes, pool, n, 0)),
+    }
+}
+
+// Nor, And and Xor: both operands are looked at, then the operator decides.
+fn eval_gate(nodes: &[u32], pool: &[u32], bytes: &[u8], n: usize) -> Answer
+    requires { ⌜ Sound (now nodes) (now pool) ⌝ }
+    requires { ⌜ Logic (now nodes) (now pool) n ⌝ }
+    requires { ⌜ TwoOperands (kindAt (now nodes) n) ⌝ }
+    ensures { λ r. ⌜ r ≡ answer (given (now (bytes .entry))) (treeOf (now (nodes .entry)) (now (pool .entry)) n) ⌝ }
+{
+    let x = eval_rec(nodes, pool, bytes, operand(nodes, pool, n, 0));
+    let y = eval_rec(nodes, pool, bytes, operand(nodes, pool, n, 1));
+    match kind_of(nodes, n) {
+        4 => nor_of(x, y),
+        6 => and_of(x, y),
+        _ => xor_of(x, y),
     }
 }
 

@@ -30,7 +30,7 @@ layout-parts true b c h = absurd (omega arith)
 layout-parts false true c h = absurd (omega arith)
 layout-parts false false c h = (refl, refl, cond-zero c 4 h)
 
-forest-length : (f : ℕ → Tree) (cs : List ℕ) → length (trees (forest f cs)) ≡ length cs
+pub forest-length : (f : ℕ → Tree) (cs : List ℕ) → length (trees (forest f cs)) ≡ length cs
 forest-length f [] = refl
 forest-length f (c ∷ cs) = ap suc (forest-length f cs)
 

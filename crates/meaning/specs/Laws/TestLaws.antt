@@ -68,13 +68,16 @@ pub fine-if : (p q : Bool) → ((p && q) ≡ false) ↔ (p ≡ true → q ≡ fa
 fine-if true q = (λ h k. h, λ f. f refl)
 fine-if false q = (λ h k. absurd (true-false k refl), λ f. refl)
 
--- ---- every element of a list
+-- ---- every element of a list, whatever it is a list of
+pub every-nth : {A : Type 0} (none : A) (p : A → Bool) (xs : List A) (i : ℕ) → every p xs ≡ true → i < length xs → p (getD xs i none) ≡ true
+every-nth none p [] i h l = absurd (omega arith)
+every-nth none p (x ∷ xs) zero h l = and-left (p x) (every p xs) h
+every-nth none p (x ∷ xs) (suc i) h l = every-nth none p xs i (and-right (p x) (every p xs) h) (omega arith)
+
 -- ---- of a test that stands for P: true of every element, or false of one
 module _ (p : ℕ → Bool) {P : ℕ → Type 0} where
   every-at : ((x : ℕ) → (p x ≡ true) ↔ P x) → (xs : List ℕ) → every p xs ≡ true → (j : ℕ) → j < length xs → P (getD xs j 0)
-  every-at e [] h j l = absurd (omega arith)
-  every-at e (x ∷ xs) h zero l = e x .0 (and-left (p x) (every p xs) h)
-  every-at e (x ∷ xs) h (suc j) l = every-at e xs (and-right (p x) (every p xs) h) j (omega arith)
+  every-at e xs h j l = e (getD xs j 0) .0 (every-nth 0 p xs j h l)
 
   at-every : ((x : ℕ) → (p x ≡ true) ↔ P x) → (xs : List ℕ) → ((j : ℕ) → j < length xs → P (getD xs j 0)) → every p xs ≡ true
   at-every e [] f = refl

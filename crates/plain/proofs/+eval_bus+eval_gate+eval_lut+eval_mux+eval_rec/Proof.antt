@@ -1,5 +1,7 @@
--- `eval_rec` and the three functions beside it meet their contracts: each descends to a lower number, and each arm is its clause of `step`.
-use Rattle.accepted.specs.Operands.{fixed, lut-takes, bus-takes, bus-size, answers-size, held-operand, lut-operand, bus-member, nor-operands, lut-children, lut-program, mux-failed, mux-arm, arm-lt, registers}
+-- `eval_rec` and the four functions beside it meet their contracts: each descends to a lower number, and each arm is its clause
+-- of `step`.
+use mathlib.Core.Logic.{inl, inr}
+use Rattle.accepted.specs.Operands.{fixed, lut-takes, bus-takes, bus-size, answers-size, held-operand, lut-operand, bus-member, nor-operands, lut-children, lut-program, mux-failed, mux-arm, arm-lt, registers, two-takes, left-is-xor}
 use Rattle.accepted.specs.Nodes.{answersAt, answer-is, children-length}
 use Rattle.operators.specs.Folds.{RowTo, row-start, row-more, row-fails, row-done, row-lt, BusTo, bus-start, bus-more, bus-done}
 use Rattle.operators.specs.Widths.{held-more, held-lt}
@@ -19,16 +21,19 @@ use borrow.Fn.Kinds.{In}
 use borrow.Fn.PlainCycle.{Measures, is, falls, and}
 use Rattle.plain.proofs.eval_bus.Reads as eval-bus
 use Rattle.plain.proofs.eval_bus.Kinds as eval-bus-kinds
-use Rattle.plain.proofs.+eval_bus+eval_lut+eval_mux+eval_rec.Lts-eval_bus as eval-bus-lts
+use Rattle.plain.proofs.+eval_bus+eval_gate+eval_lut+eval_mux+eval_rec.Lts-eval_bus as eval-bus-lts
+use Rattle.plain.proofs.eval_gate.Reads as eval-gate
+use Rattle.plain.proofs.eval_gate.Kinds as eval-gate-kinds
+use Rattle.plain.proofs.+eval_bus+eval_gate+eval_lut+eval_mux+eval_rec.Lts-eval_gate as eval-gate-lts
 use Rattle.plain.proofs.eval_lut.Reads as eval-lut
 use Rattle.plain.proofs.eval_lut.Kinds as eval-lut-kinds
-use Rattle.plain.proofs.+eval_bus+eval_lut+eval_mux+eval_rec.Lts-eval_lut as eval-lut-lts
+use Rattle.plain.proofs.+eval_bus+eval_gate+eval_lut+eval_mux+eval_rec.Lts-eval_lut as eval-lut-lts
 use Rattle.plain.proofs.eval_mux.Reads as eval-mux
 use Rattle.plain.proofs.eval_mux.Kinds as eval-mux-kinds
-use Rattle.plain.proofs.+eval_bus+eval_lut+eval_mux+eval_rec.Lts-eval_mux as eval-mux-lts
+use Rattle.plain.proofs.+eval_bus+eval_gate+eval_lut+eval_mux+eval_rec.Lts-eval_mux as eval-mux-lts
 use Rattle.plain.proofs.eval_rec.Reads as eval-rec
 use Rattle.plain.proofs.eval_rec.Kinds as eval-rec-kinds
-use Rattle.plain.proofs.+eval_bus+eval_lut+eval_mux+eval_rec.Lts-eval_rec as eval-rec-lts
+use Rattle.plain.proofs.+eval_bus+eval_gate+eval_lut+eval_mux+eval_rec.Lts-eval_rec as eval-rec-lts
 use Rattle.accepted.proofs.leaf_of.Reads as leaf-of-reads
 use Rattle.accepted.proofs.operand.Reads as operand-reads
 use Rattle.accepted.proofs.program_of.Reads as program-of-reads
@@ -41,11 +46,14 @@ use Rattle.operators.proofs.nor_of.Reads as nor-of-reads
 use Rattle.operators.proofs.not_of.Reads as not-of-reads
 use Rattle.operators.proofs.row_bit.Reads as row-bit-reads
 use Rattle.operators.proofs.xor_of.Reads as xor-of-reads
-use Rattle.plain.proofs.+eval_bus+eval_lut+eval_mux+eval_rec.{statement}
-use Rattle.plain.proofs.+eval_bus+eval_lut+eval_mux+eval_rec.Tie.{close}
+use Rattle.plain.proofs.+eval_bus+eval_gate+eval_lut+eval_mux+eval_rec.{statement}
+use Rattle.plain.proofs.+eval_bus+eval_gate+eval_lut+eval_mux+eval_rec.Tie.{close}
 
 abbrev μ-eval-bus : Measures 3 eval-bus-kinds.ps ℕ
 μ-eval-bus κs a = 2 * a .1 .1 .1 .0
+
+abbrev μ-eval-gate : Measures 3 eval-gate-kinds.ps ℕ
+μ-eval-gate κs a = 2 * a .1 .1 .1 .0
 
 abbrev μ-eval-lut : Measures 3 eval-lut-kinds.ps ℕ
 μ-eval-lut κs a = 2 * a .1 .1 .1 .0
@@ -62,6 +70,13 @@ eval-bus-at t = and 3 eval-bus-kinds.ps (is 3 eval-bus-kinds.ps μ-eval-bus t) e
 abbrev eval-bus-below : ℕ → In 3 eval-bus-kinds.ps
 eval-bus-below t =
     and 3 eval-bus-kinds.ps (falls 3 eval-bus-kinds.ps _<_ μ-eval-bus t) eval-bus.Pre
+
+abbrev eval-gate-at : ℕ → In 3 eval-gate-kinds.ps
+eval-gate-at t = and 3 eval-gate-kinds.ps (is 3 eval-gate-kinds.ps μ-eval-gate t) eval-gate.Pre
+
+abbrev eval-gate-below : ℕ → In 3 eval-gate-kinds.ps
+eval-gate-below t =
+    and 3 eval-gate-kinds.ps (falls 3 eval-gate-kinds.ps _<_ μ-eval-gate t) eval-gate.Pre
 
 abbrev eval-lut-at : ℕ → In 3 eval-lut-kinds.ps
 eval-lut-at t = and 3 eval-lut-kinds.ps (is 3 eval-lut-kinds.ps μ-eval-lut t) eval-lut.Pre
@@ -85,17 +100,20 @@ eval-rec-below t =
     and 3 eval-rec-kinds.ps (falls 3 eval-rec-kinds.ps _<_ μ-eval-rec t) eval-rec.Pre
 
 -- what the callees ask and ensure
+abbrev eval-gate-R : ℕ → eval-gate-lts.Claims
+eval-gate-R t = (operand-reads.Asked, operand-reads.Learnt, eval-rec-below t, eval-rec.Post, kind-of-reads.Asked, kind-of-reads.Learnt, nor-of-reads.Asked, nor-of-reads.Learnt, and-of-reads.Asked, and-of-reads.Learnt, xor-of-reads.Asked, xor-of-reads.Learnt)
+
+abbrev eval-mux-R : ℕ → eval-mux-lts.Claims
+eval-mux-R t = (operand-reads.Asked, operand-reads.Learnt, eval-rec-below t, eval-rec.Post, arm-of-reads.Asked, arm-of-reads.Learnt)
+
 abbrev eval-lut-R : ℕ → eval-lut-lts.Claims
 eval-lut-R t = (count-of-reads.Asked, count-of-reads.Learnt, operand-reads.Asked, operand-reads.Learnt, eval-rec-below t, eval-rec.Post, program-of-reads.Asked, program-of-reads.Learnt, row-bit-reads.Asked, row-bit-reads.Learnt)
 
 abbrev eval-rec-R : ℕ → eval-rec-lts.Claims
-eval-rec-R t = (kind-of-reads.Asked, kind-of-reads.Learnt, operand-reads.Asked, operand-reads.Learnt, eval-rec-below t, eval-rec.Post, nor-of-reads.Asked, nor-of-reads.Learnt, eval-mux-below t, eval-mux.Post, and-of-reads.Asked, and-of-reads.Learnt, xor-of-reads.Asked, xor-of-reads.Learnt, not-of-reads.Asked, not-of-reads.Learnt, eval-lut-below t, eval-lut.Post, eval-bus-below t, eval-bus.Post, leaf-of-reads.Asked, leaf-of-reads.Learnt)
+eval-rec-R t = (kind-of-reads.Asked, kind-of-reads.Learnt, eval-gate-below t, eval-gate.Post, eval-mux-below t, eval-mux.Post, operand-reads.Asked, operand-reads.Learnt, eval-rec-below t, eval-rec.Post, not-of-reads.Asked, not-of-reads.Learnt, eval-lut-below t, eval-lut.Post, eval-bus-below t, eval-bus.Post, leaf-of-reads.Asked, leaf-of-reads.Learnt)
 
 abbrev eval-bus-R : ℕ → eval-bus-lts.Claims
 eval-bus-R t = (count-of-reads.Asked, count-of-reads.Learnt, operand-reads.Asked, operand-reads.Learnt, eval-rec-below t, eval-rec.Post, bus-step-reads.Asked, bus-step-reads.Learnt)
-
-abbrev eval-mux-R : ℕ → eval-mux-lts.Claims
-eval-mux-R t = (operand-reads.Asked, operand-reads.Learnt, eval-rec-below t, eval-rec.Post, arm-of-reads.Asked, arm-of-reads.Learnt)
 
 abbrev eval-bus-Inv-loop : eval-bus-lts.InvT-loop
 eval-bus-Inv-loop nodes pool bytes n count bus₀ i₀ bus i =
@@ -161,6 +179,61 @@ eval-bus-returns t c =
     let n = s .args .n in
     let l = c .before .loop in
     bus-done (answersAt ns ps α n) (l .i) (l .bus) (rw (answers-size ns ps (s .pre .1 .0) n α) (omega (arith, l .inv .1))) (l .inv .2) ∙ sym (answer-is ns ps (s .pre .1 .0) n (s .pre .1 .1 .0 .inside) α 10 (s .pre .1 .1 .1))
+
+eval-gate-operand-requires : (t : ℕ) → eval-gate-lts.Need-operand-requires (eval-gate-R t) (eval-gate-at t) eval-gate.Post
+eval-gate-operand-requires t c κs =
+    let s = c .before .before .before in
+    ((s .pre .1 .0), ((s .pre .1 .1 .0), two-takes (s .args .nodes .now) (s .args .pool .now) (s .pre .1 .0) (s .args .n) (s .pre .1 .1 .0 .inside) (s .pre .1 .1 .1) 0 (lit< tt)))
+
+eval-gate-eval-rec-requires : (t : ℕ) → eval-gate-lts.Need-eval-rec-requires (eval-gate-R t) (eval-gate-at t) eval-gate.Post
+eval-gate-eval-rec-requires t c κs =
+    let s = c .before .before .before .before in
+    (omega (arith, s .pre .0, c .operand .ensures .below), ((s .pre .1 .0), c .operand .ensures .logic))
+
+eval-gate-operand-requires-2 : (t : ℕ) → eval-gate-lts.Need-operand-requires-2 (eval-gate-R t) (eval-gate-at t) eval-gate.Post
+eval-gate-operand-requires-2 t c κs =
+    let s = c .before .before .before .before .before in
+    ((s .pre .1 .0), ((s .pre .1 .1 .0), two-takes (s .args .nodes .now) (s .args .pool .now) (s .pre .1 .0) (s .args .n) (s .pre .1 .1 .0 .inside) (s .pre .1 .1 .1) 1 (lit< tt)))
+
+eval-gate-eval-rec-requires-2 : (t : ℕ) → eval-gate-lts.Need-eval-rec-requires-2 (eval-gate-R t) (eval-gate-at t) eval-gate.Post
+eval-gate-eval-rec-requires-2 t c κs =
+    let s = c .before .before .before .before .before .before in
+    (omega (arith, s .pre .0, c .operand2 .ensures .below), ((s .pre .1 .0), c .operand2 .ensures .logic))
+
+eval-gate-kind-of-requires : (t : ℕ) → eval-gate-lts.Need-kind-of-requires (eval-gate-R t) (eval-gate-at t) eval-gate.Post
+eval-gate-kind-of-requires t c κs = (c .before .before .before .before .before .before .before .pre .1 .1 .0) .inside
+
+eval-gate-nor-of-requires : (t : ℕ) → eval-gate-lts.Need-nor-of-requires (eval-gate-R t) (eval-gate-at t) eval-gate.Post
+eval-gate-nor-of-requires t c κs =
+    let s = c .before .before .before .before .before .before .before .before .before in
+    let α = given (s .args .bytes .now) in
+    rw ((c .before .before .before .before .eval-rec .ensures ∙ c .before .before .before .before .before .operand .ensures .read α), (c .before .before .eval-rec2 .ensures ∙ c .before .before .before .operand2 .ensures .read α)) (nor-operands (s .args .nodes .now) (s .args .pool .now) (s .pre .1 .0) (s .args .n) (s .pre .1 .1 .0) α (rw (sym (c .before .kind-of .ensures) ∙ c .match .keys1)))
+
+eval-gate-and-of-requires : (t : ℕ) → eval-gate-lts.Need-and-of-requires (eval-gate-R t) (eval-gate-at t) eval-gate.Post
+eval-gate-and-of-requires t c κs = search needs
+
+eval-gate-xor-of-requires : (t : ℕ) → eval-gate-lts.Need-xor-of-requires (eval-gate-R t) (eval-gate-at t) eval-gate.Post
+eval-gate-xor-of-requires t c κs = search needs
+
+eval-gate-returns : (t : ℕ) → eval-gate-lts.Need-returns (eval-gate-R t) (eval-gate-at t) eval-gate.Post
+eval-gate-returns t c =
+    let s = c .before .before .before .before .before .before .before .before .before .before in
+    let α = given (s .args .bytes .now) in
+    c .nor-of .ensures ∙ ap₂ norOf (c .before .before .before .before .before .eval-rec .ensures ∙ c .before .before .before .before .before .before .operand .ensures .read α) (c .before .before .before .eval-rec2 .ensures ∙ c .before .before .before .before .operand2 .ensures .read α) ∙ sym (answer-is (s .args .nodes .now) (s .args .pool .now) (s .pre .1 .0) (s .args .n) (s .pre .1 .1 .0 .inside) α 4 (sym (c .before .before .kind-of .ensures) ∙ c .before .match .keys1))
+
+eval-gate-returns-2 : (t : ℕ) → eval-gate-lts.Need-returns-2 (eval-gate-R t) (eval-gate-at t) eval-gate.Post
+eval-gate-returns-2 t c =
+    let s = c .before .before .before .before .before .before .before .before .before .before in
+    let α = given (s .args .bytes .now) in
+    c .and-of .ensures ∙ ap₂ andOf (c .before .before .before .before .before .eval-rec .ensures ∙ c .before .before .before .before .before .before .operand .ensures .read α) (c .before .before .before .eval-rec2 .ensures ∙ c .before .before .before .before .operand2 .ensures .read α) ∙ sym (answer-is (s .args .nodes .now) (s .args .pool .now) (s .pre .1 .0) (s .args .n) (s .pre .1 .1 .0 .inside) α 6 (sym (c .before .before .kind-of .ensures) ∙ c .before .match .keys2))
+
+eval-gate-returns-3 : (t : ℕ) → eval-gate-lts.Need-returns-3 (eval-gate-R t) (eval-gate-at t) eval-gate.Post
+eval-gate-returns-3 t c =
+    let s = c .before .before .before .before .before .before .before .before .before .before in
+    let ns = s .args .nodes .now in
+    let α = given (s .args .bytes .now) in
+    let n = s .args .n in
+    let kind : (kindAt ns n) ≡ 7 = left-is-xor (kindAt ns n) (s .pre .1 .1 .1) (λ e. c .before .match .rest .0 .1 (c .before .before .kind-of .ensures ∙ e)) (λ e. c .before .match .rest .1 (c .before .before .kind-of .ensures ∙ e)) in c .xor-of .ensures ∙ ap₂ xorOf (c .before .before .before .before .before .eval-rec .ensures ∙ c .before .before .before .before .before .before .operand .ensures .read α) (c .before .before .before .eval-rec2 .ensures ∙ c .before .before .before .before .operand2 .ensures .read α) ∙ sym (answer-is ns (s .args .pool .now) (s .pre .1 .0) n (s .pre .1 .1 .0 .inside) α 7 kind)
 
 abbrev eval-lut-Inv-loop : eval-lut-lts.InvT-loop
 eval-lut-Inv-loop nodes pool bytes n count row₀ i₀ row i =
@@ -320,92 +393,35 @@ eval-mux-returns-2 t c =
 eval-rec-kind-of-requires : (t : ℕ) → eval-rec-lts.Need-kind-of-requires (eval-rec-R t) (eval-rec-at t) eval-rec.Post
 eval-rec-kind-of-requires t c κs = search needs
 
-eval-rec-operand-requires : (t : ℕ) → eval-rec-lts.Need-operand-requires (eval-rec-R t) (eval-rec-at t) eval-rec.Post
-eval-rec-operand-requires t c κs =
+eval-rec-eval-gate-requires : (t : ℕ) → eval-rec-lts.Need-eval-gate-requires (eval-rec-R t) (eval-rec-at t) eval-rec.Post
+eval-rec-eval-gate-requires t c κs =
     let s = c .before .before .before .before .before in
-    ((s .pre .1 .0), ((s .pre .1 .1), fixed (s .args .nodes .now) (s .args .pool .now) (s .pre .1 .0) (s .args .n) (s .pre .1 .1 .inside) 4 2 0 (sym (c .before .kind-of .ensures) ∙ c .match .keys1) (λ c. refl) refl (lit< tt)))
-
-eval-rec-eval-rec-requires : (t : ℕ) → eval-rec-lts.Need-eval-rec-requires (eval-rec-R t) (eval-rec-at t) eval-rec.Post
-eval-rec-eval-rec-requires t c κs =
-    let s = c .before .before .before .before .before .before in
-    (omega (arith, s .pre .0, c .operand .ensures .below), ((s .pre .1 .0), c .operand .ensures .logic))
-
-eval-rec-operand-requires-2 : (t : ℕ) → eval-rec-lts.Need-operand-requires-2 (eval-rec-R t) (eval-rec-at t) eval-rec.Post
-eval-rec-operand-requires-2 t c κs =
-    let s = c .before .before .before .before .before .before .before in
-    ((s .pre .1 .0), ((s .pre .1 .1), fixed (s .args .nodes .now) (s .args .pool .now) (s .pre .1 .0) (s .args .n) (s .pre .1 .1 .inside) 4 2 1 (sym (c .before .before .before .kind-of .ensures) ∙ c .before .before .match .keys1) (λ c. refl) refl (lit< tt)))
-
-eval-rec-eval-rec-requires-2 : (t : ℕ) → eval-rec-lts.Need-eval-rec-requires-2 (eval-rec-R t) (eval-rec-at t) eval-rec.Post
-eval-rec-eval-rec-requires-2 t c κs =
-    let s = c .before .before .before .before .before .before .before .before in
-    (omega (arith, s .pre .0, c .operand2 .ensures .below), ((s .pre .1 .0), c .operand2 .ensures .logic))
-
-eval-rec-nor-of-requires : (t : ℕ) → eval-rec-lts.Need-nor-of-requires (eval-rec-R t) (eval-rec-at t) eval-rec.Post
-eval-rec-nor-of-requires t c κs =
-    let s = c .before .before .before .before .before .before .before .before .before in
-    let α = given (s .args .bytes .now) in
-    rw ((c .before .before .eval-rec .ensures ∙ c .before .before .before .operand .ensures .read α), (c .eval-rec2 .ensures ∙ c .before .operand2 .ensures .read α)) (nor-operands (s .args .nodes .now) (s .args .pool .now) (s .pre .1 .0) (s .args .n) (s .pre .1 .1) α (rw (sym (c .before .before .before .before .before .kind-of .ensures) ∙ c .before .before .before .before .match .keys1)))
+    (omega (arith, s .pre .0), ((s .pre .1 .0), ((s .pre .1 .1), inl (sym (c .before .kind-of .ensures) ∙ c .match .keys1))))
 
 eval-rec-eval-mux-requires : (t : ℕ) → eval-rec-lts.Need-eval-mux-requires (eval-rec-R t) (eval-rec-at t) eval-rec.Post
 eval-rec-eval-mux-requires t c κs =
     let s = c .before .before .before .before .before in
     (omega (arith, s .pre .0), ((s .pre .1 .0), ((s .pre .1 .1), (sym (c .before .kind-of .ensures) ∙ c .match .keys2))))
 
-eval-rec-operand-requires-3 : (t : ℕ) → eval-rec-lts.Need-operand-requires-3 (eval-rec-R t) (eval-rec-at t) eval-rec.Post
-eval-rec-operand-requires-3 t c κs =
+eval-rec-eval-gate-requires-2 : (t : ℕ) → eval-rec-lts.Need-eval-gate-requires-2 (eval-rec-R t) (eval-rec-at t) eval-rec.Post
+eval-rec-eval-gate-requires-2 t c κs =
     let s = c .before .before .before .before .before in
-    ((s .pre .1 .0), ((s .pre .1 .1), fixed (s .args .nodes .now) (s .args .pool .now) (s .pre .1 .0) (s .args .n) (s .pre .1 .1 .inside) 6 2 0 (sym (c .before .kind-of .ensures) ∙ c .match .keys3) (λ c. refl) refl (lit< tt)))
+    (omega (arith, s .pre .0), ((s .pre .1 .0), ((s .pre .1 .1), inr (inl (sym (c .before .kind-of .ensures) ∙ c .match .keys3)))))
 
-eval-rec-eval-rec-requires-3 : (t : ℕ) → eval-rec-lts.Need-eval-rec-requires-3 (eval-rec-R t) (eval-rec-at t) eval-rec.Post
-eval-rec-eval-rec-requires-3 t c κs =
-    let s = c .before .before .before .before .before .before in
-    (omega (arith, s .pre .0, c .operand3 .ensures .below), ((s .pre .1 .0), c .operand3 .ensures .logic))
-
-eval-rec-operand-requires-4 : (t : ℕ) → eval-rec-lts.Need-operand-requires-4 (eval-rec-R t) (eval-rec-at t) eval-rec.Post
-eval-rec-operand-requires-4 t c κs =
-    let s = c .before .before .before .before .before .before .before in
-    ((s .pre .1 .0), ((s .pre .1 .1), fixed (s .args .nodes .now) (s .args .pool .now) (s .pre .1 .0) (s .args .n) (s .pre .1 .1 .inside) 6 2 1 (sym (c .before .before .before .kind-of .ensures) ∙ c .before .before .match .keys3) (λ c. refl) refl (lit< tt)))
-
-eval-rec-eval-rec-requires-4 : (t : ℕ) → eval-rec-lts.Need-eval-rec-requires-4 (eval-rec-R t) (eval-rec-at t) eval-rec.Post
-eval-rec-eval-rec-requires-4 t c κs =
-    let s = c .before .before .before .before .before .before .before .before in
-    (omega (arith, s .pre .0, c .operand4 .ensures .below), ((s .pre .1 .0), c .operand4 .ensures .logic))
-
-eval-rec-and-of-requires : (t : ℕ) → eval-rec-lts.Need-and-of-requires (eval-rec-R t) (eval-rec-at t) eval-rec.Post
-eval-rec-and-of-requires t c κs = search needs
-
-eval-rec-operand-requires-5 : (t : ℕ) → eval-rec-lts.Need-operand-requires-5 (eval-rec-R t) (eval-rec-at t) eval-rec.Post
-eval-rec-operand-requires-5 t c κs =
+eval-rec-eval-gate-requires-3 : (t : ℕ) → eval-rec-lts.Need-eval-gate-requires-3 (eval-rec-R t) (eval-rec-at t) eval-rec.Post
+eval-rec-eval-gate-requires-3 t c κs =
     let s = c .before .before .before .before .before in
-    ((s .pre .1 .0), ((s .pre .1 .1), fixed (s .args .nodes .now) (s .args .pool .now) (s .pre .1 .0) (s .args .n) (s .pre .1 .1 .inside) 7 2 0 (sym (c .before .kind-of .ensures) ∙ c .match .keys4) (λ c. refl) refl (lit< tt)))
+    (omega (arith, s .pre .0), ((s .pre .1 .0), ((s .pre .1 .1), inr (inr (sym (c .before .kind-of .ensures) ∙ c .match .keys4)))))
 
-eval-rec-eval-rec-requires-5 : (t : ℕ) → eval-rec-lts.Need-eval-rec-requires-5 (eval-rec-R t) (eval-rec-at t) eval-rec.Post
-eval-rec-eval-rec-requires-5 t c κs =
-    let s = c .before .before .before .before .before .before in
-    (omega (arith, s .pre .0, c .operand5 .ensures .below), ((s .pre .1 .0), c .operand5 .ensures .logic))
-
-eval-rec-operand-requires-6 : (t : ℕ) → eval-rec-lts.Need-operand-requires-6 (eval-rec-R t) (eval-rec-at t) eval-rec.Post
-eval-rec-operand-requires-6 t c κs =
-    let s = c .before .before .before .before .before .before .before in
-    ((s .pre .1 .0), ((s .pre .1 .1), fixed (s .args .nodes .now) (s .args .pool .now) (s .pre .1 .0) (s .args .n) (s .pre .1 .1 .inside) 7 2 1 (sym (c .before .before .before .kind-of .ensures) ∙ c .before .before .match .keys4) (λ c. refl) refl (lit< tt)))
-
-eval-rec-eval-rec-requires-6 : (t : ℕ) → eval-rec-lts.Need-eval-rec-requires-6 (eval-rec-R t) (eval-rec-at t) eval-rec.Post
-eval-rec-eval-rec-requires-6 t c κs =
-    let s = c .before .before .before .before .before .before .before .before in
-    (omega (arith, s .pre .0, c .operand6 .ensures .below), ((s .pre .1 .0), c .operand6 .ensures .logic))
-
-eval-rec-xor-of-requires : (t : ℕ) → eval-rec-lts.Need-xor-of-requires (eval-rec-R t) (eval-rec-at t) eval-rec.Post
-eval-rec-xor-of-requires t c κs = search needs
-
-eval-rec-operand-requires-7 : (t : ℕ) → eval-rec-lts.Need-operand-requires-7 (eval-rec-R t) (eval-rec-at t) eval-rec.Post
-eval-rec-operand-requires-7 t c κs =
+eval-rec-operand-requires : (t : ℕ) → eval-rec-lts.Need-operand-requires (eval-rec-R t) (eval-rec-at t) eval-rec.Post
+eval-rec-operand-requires t c κs =
     let s = c .before .before .before .before .before in
     ((s .pre .1 .0), ((s .pre .1 .1), fixed (s .args .nodes .now) (s .args .pool .now) (s .pre .1 .0) (s .args .n) (s .pre .1 .1 .inside) 8 1 0 (sym (c .before .kind-of .ensures) ∙ c .match .keys5) (λ c. refl) refl (lit< tt)))
 
-eval-rec-eval-rec-requires-7 : (t : ℕ) → eval-rec-lts.Need-eval-rec-requires-7 (eval-rec-R t) (eval-rec-at t) eval-rec.Post
-eval-rec-eval-rec-requires-7 t c κs =
+eval-rec-eval-rec-requires : (t : ℕ) → eval-rec-lts.Need-eval-rec-requires (eval-rec-R t) (eval-rec-at t) eval-rec.Post
+eval-rec-eval-rec-requires t c κs =
     let s = c .before .before .before .before .before .before in
-    (omega (arith, s .pre .0, c .operand7 .ensures .below), ((s .pre .1 .0), c .operand7 .ensures .logic))
+    (omega (arith, s .pre .0, c .operand .ensures .below), ((s .pre .1 .0), c .operand .ensures .logic))
 
 eval-rec-not-of-requires : (t : ℕ) → eval-rec-lts.Need-not-of-requires (eval-rec-R t) (eval-rec-at t) eval-rec.Post
 eval-rec-not-of-requires t c κs =
@@ -414,7 +430,7 @@ eval-rec-not-of-requires t c κs =
     let ps = s .args .pool .now in
     let α = given (s .args .bytes .now) in
     let n = s .args .n in
-    rw (c .eval-rec7 .ensures ∙ c .before .operand7 .ensures .read α) (held-operand ns ps (s .pre .1 .0) n (s .pre .1 .1) α 0 (fixed ns ps (s .pre .1 .0) n (s .pre .1 .1 .inside) 8 1 0 (sym (c .before .before .before .kind-of .ensures) ∙ c .before .before .match .keys5) (λ c. refl) refl (lit< tt)))
+    rw (c .eval-rec .ensures ∙ c .before .operand .ensures .read α) (held-operand ns ps (s .pre .1 .0) n (s .pre .1 .1) α 0 (fixed ns ps (s .pre .1 .0) n (s .pre .1 .1 .inside) 8 1 0 (sym (c .before .before .before .kind-of .ensures) ∙ c .before .before .match .keys5) (λ c. refl) refl (lit< tt)))
 
 eval-rec-eval-lut-requires : (t : ℕ) → eval-rec-lts.Need-eval-lut-requires (eval-rec-R t) (eval-rec-at t) eval-rec.Post
 eval-rec-eval-lut-requires t c κs =
@@ -431,44 +447,35 @@ eval-rec-leaf-of-requires t c κs =
     let s = c .before .before .before .before .before .before in
     (s .pre .1 .1 .inside, (omega (arith, c .before .before .kind-of .ensures, c .if1 .taken), (s .pre .1 .1) .noProgram))
 
-eval-rec-operand-requires-8 : (t : ℕ) → eval-rec-lts.Need-operand-requires-8 (eval-rec-R t) (eval-rec-at t) eval-rec.Post
-eval-rec-operand-requires-8 t c κs =
+eval-rec-operand-requires-2 : (t : ℕ) → eval-rec-lts.Need-operand-requires-2 (eval-rec-R t) (eval-rec-at t) eval-rec.Post
+eval-rec-operand-requires-2 t c κs =
     let s = c .before .before .before .before .before .before .before in
     let ns = s .args .nodes .now in
     let n = s .args .n in
     let e : kindAt ns n ≡ 16 = omega (arith, c .before .before .before .kind-of .ensures, c .if2 .left, c .before .before .match .rest .1, (s .pre .1 .0) .0 n (s .pre .1 .1 .inside) .0) in ((s .pre .1 .0), ((s .pre .1 .1), fixed ns (s .args .pool .now) (s .pre .1 .0) n (s .pre .1 .1 .inside) 16 1 0 e (λ c. refl) refl (lit< tt)))
 
-eval-rec-eval-rec-requires-8 : (t : ℕ) → eval-rec-lts.Need-eval-rec-requires-8 (eval-rec-R t) (eval-rec-at t) eval-rec.Post
-eval-rec-eval-rec-requires-8 t c κs =
+eval-rec-eval-rec-requires-2 : (t : ℕ) → eval-rec-lts.Need-eval-rec-requires-2 (eval-rec-R t) (eval-rec-at t) eval-rec.Post
+eval-rec-eval-rec-requires-2 t c κs =
     let s = c .before .before .before .before .before .before .before .before in
-    (omega (arith, s .pre .0, c .operand8 .ensures .below), ((s .pre .1 .0), c .operand8 .ensures .logic))
+    (omega (arith, s .pre .0, c .operand2 .ensures .below), ((s .pre .1 .0), c .operand2 .ensures .logic))
 
 eval-rec-returns : (t : ℕ) → eval-rec-lts.Need-returns (eval-rec-R t) (eval-rec-at t) eval-rec.Post
-eval-rec-returns t c =
-    let s = c .before .before .before .before .before .before .before .before .before .before in
-    let α = given (s .args .bytes .now) in
-    c .nor-of .ensures ∙ ap₂ norOf (c .before .before .before .eval-rec .ensures ∙ c .before .before .before .before .operand .ensures .read α) (c .before .eval-rec2 .ensures ∙ c .before .before .operand2 .ensures .read α) ∙ sym (answer-is (s .args .nodes .now) (s .args .pool .now) (s .pre .1 .0) (s .args .n) (s .pre .1 .1 .inside) α 4 (sym (c .before .before .before .before .before .before .kind-of .ensures) ∙ c .before .before .before .before .before .match .keys1))
+eval-rec-returns t c = c .eval-gate .ensures
 
 eval-rec-returns-2 : (t : ℕ) → eval-rec-lts.Need-returns-2 (eval-rec-R t) (eval-rec-at t) eval-rec.Post
 eval-rec-returns-2 t c = c .eval-mux .ensures
 
 eval-rec-returns-3 : (t : ℕ) → eval-rec-lts.Need-returns-3 (eval-rec-R t) (eval-rec-at t) eval-rec.Post
-eval-rec-returns-3 t c =
-    let s = c .before .before .before .before .before .before .before .before .before .before in
-    let α = given (s .args .bytes .now) in
-    c .and-of .ensures ∙ ap₂ andOf (c .before .before .before .eval-rec3 .ensures ∙ c .before .before .before .before .operand3 .ensures .read α) (c .before .eval-rec4 .ensures ∙ c .before .before .operand4 .ensures .read α) ∙ sym (answer-is (s .args .nodes .now) (s .args .pool .now) (s .pre .1 .0) (s .args .n) (s .pre .1 .1 .inside) α 6 (sym (c .before .before .before .before .before .before .kind-of .ensures) ∙ c .before .before .before .before .before .match .keys3))
+eval-rec-returns-3 t c = c .eval-gate2 .ensures
 
 eval-rec-returns-4 : (t : ℕ) → eval-rec-lts.Need-returns-4 (eval-rec-R t) (eval-rec-at t) eval-rec.Post
-eval-rec-returns-4 t c =
-    let s = c .before .before .before .before .before .before .before .before .before .before in
-    let α = given (s .args .bytes .now) in
-    c .xor-of .ensures ∙ ap₂ xorOf (c .before .before .before .eval-rec5 .ensures ∙ c .before .before .before .before .operand5 .ensures .read α) (c .before .eval-rec6 .ensures ∙ c .before .before .operand6 .ensures .read α) ∙ sym (answer-is (s .args .nodes .now) (s .args .pool .now) (s .pre .1 .0) (s .args .n) (s .pre .1 .1 .inside) α 7 (sym (c .before .before .before .before .before .before .kind-of .ensures) ∙ c .before .before .before .before .before .match .keys4))
+eval-rec-returns-4 t c = c .eval-gate3 .ensures
 
 eval-rec-returns-5 : (t : ℕ) → eval-rec-lts.Need-returns-5 (eval-rec-R t) (eval-rec-at t) eval-rec.Post
 eval-rec-returns-5 t c =
     let s = c .before .before .before .before .before .before .before .before in
     let α = given (s .args .bytes .now) in
-    c .not-of .ensures ∙ ap notOf (c .before .eval-rec7 .ensures ∙ c .before .before .operand7 .ensures .read α) ∙ sym (answer-is (s .args .nodes .now) (s .args .pool .now) (s .pre .1 .0) (s .args .n) (s .pre .1 .1 .inside) α 8 (sym (c .before .before .before .before .kind-of .ensures) ∙ c .before .before .before .match .keys5))
+    c .not-of .ensures ∙ ap notOf (c .before .eval-rec .ensures ∙ c .before .before .operand .ensures .read α) ∙ sym (answer-is (s .args .nodes .now) (s .args .pool .now) (s .pre .1 .0) (s .args .n) (s .pre .1 .1 .inside) α 8 (sym (c .before .before .before .before .kind-of .ensures) ∙ c .before .before .before .match .keys5))
 
 eval-rec-returns-6 : (t : ℕ) → eval-rec-lts.Need-returns-6 (eval-rec-R t) (eval-rec-at t) eval-rec.Post
 eval-rec-returns-6 t c = c .eval-lut .ensures
@@ -505,11 +512,11 @@ eval-rec-returns-11 t c =
     let ns = s .args .nodes .now in
     let α = given (s .args .bytes .now) in
     let n = s .args .n in
-    let e : kindAt ns n ≡ 16 = omega (arith, c .before .before .before .before .before .kind-of .ensures, c .before .before .if2 .left, c .before .before .before .before .match .rest .1, (s .pre .1 .0) .0 n (s .pre .1 .1 .inside) .0) in c .eval-rec8 .ensures ∙ c .before .operand8 .ensures .read α ∙ sym (answer-is ns (s .args .pool .now) (s .pre .1 .0) n (s .pre .1 .1 .inside) α 16 e)
+    let e : kindAt ns n ≡ 16 = omega (arith, c .before .before .before .before .before .kind-of .ensures, c .before .before .if2 .left, c .before .before .before .before .match .rest .1, (s .pre .1 .0) .0 n (s .pre .1 .1 .inside) .0) in c .eval-rec2 .ensures ∙ c .before .operand2 .ensures .read α ∙ sym (answer-is ns (s .args .pool .now) (s .pre .1 .0) n (s .pre .1 .1 .inside) α 16 e)
 
-pub +eval-bus+eval-lut+eval-mux+eval-rec-spec : {M : Type 1} → statement M
-+eval-bus+eval-lut+eval-mux+eval-rec-spec =
-    close μ-eval-bus μ-eval-lut μ-eval-mux μ-eval-rec (λ t. eval-bus-lts.spec (eval-bus-R t)
+pub +eval-bus+eval-gate+eval-lut+eval-mux+eval-rec-spec : {M : Type 1} → statement M
++eval-bus+eval-gate+eval-lut+eval-mux+eval-rec-spec =
+    close μ-eval-bus μ-eval-gate μ-eval-lut μ-eval-mux μ-eval-rec (λ t. eval-bus-lts.spec (eval-bus-R t)
     (eval-bus-at t)
     eval-bus.Post
     eval-bus-Inv-loop
@@ -523,6 +530,20 @@ pub +eval-bus+eval-lut+eval-mux+eval-rec-spec : {M : Type 1} → statement M
     (eval-bus-loop-less t)
     (eval-bus-loop-again t)
     (eval-bus-returns t))
+    (λ t. eval-gate-lts.spec (eval-gate-R t)
+    (eval-gate-at t)
+    eval-gate.Post
+    (eval-gate-operand-requires t)
+    (eval-gate-eval-rec-requires t)
+    (eval-gate-operand-requires-2 t)
+    (eval-gate-eval-rec-requires-2 t)
+    (eval-gate-kind-of-requires t)
+    (eval-gate-nor-of-requires t)
+    (eval-gate-and-of-requires t)
+    (eval-gate-xor-of-requires t)
+    (eval-gate-returns t)
+    (eval-gate-returns-2 t)
+    (eval-gate-returns-3 t))
     (λ t. eval-lut-lts.spec (eval-lut-R t)
     (eval-lut-at t)
     eval-lut.Post
@@ -559,30 +580,18 @@ pub +eval-bus+eval-lut+eval-mux+eval-rec-spec : {M : Type 1} → statement M
     (eval-rec-at t)
     eval-rec.Post
     (eval-rec-kind-of-requires t)
+    (eval-rec-eval-gate-requires t)
+    (eval-rec-eval-mux-requires t)
+    (eval-rec-eval-gate-requires-2 t)
+    (eval-rec-eval-gate-requires-3 t)
     (eval-rec-operand-requires t)
     (eval-rec-eval-rec-requires t)
-    (eval-rec-operand-requires-2 t)
-    (eval-rec-eval-rec-requires-2 t)
-    (eval-rec-nor-of-requires t)
-    (eval-rec-eval-mux-requires t)
-    (eval-rec-operand-requires-3 t)
-    (eval-rec-eval-rec-requires-3 t)
-    (eval-rec-operand-requires-4 t)
-    (eval-rec-eval-rec-requires-4 t)
-    (eval-rec-and-of-requires t)
-    (eval-rec-operand-requires-5 t)
-    (eval-rec-eval-rec-requires-5 t)
-    (eval-rec-operand-requires-6 t)
-    (eval-rec-eval-rec-requires-6 t)
-    (eval-rec-xor-of-requires t)
-    (eval-rec-operand-requires-7 t)
-    (eval-rec-eval-rec-requires-7 t)
     (eval-rec-not-of-requires t)
     (eval-rec-eval-lut-requires t)
     (eval-rec-eval-bus-requires t)
     (eval-rec-leaf-of-requires t)
-    (eval-rec-operand-requires-8 t)
-    (eval-rec-eval-rec-requires-8 t)
+    (eval-rec-operand-requires-2 t)
+    (eval-rec-eval-rec-requires-2 t)
     (eval-rec-returns t)
     (eval-rec-returns-2 t)
     (eval-rec-returns-3 t)
