@@ -22,10 +22,12 @@ ghost use Rattle.meaning.specs.Rules.Trees.{kindAt, treeOf};
 ghost use Rattle.meaning.specs.Rules.Answers.{answer, nth};
 ghost use Rattle.meaning.specs.Rules.Assignments.{given};
 ghost use Rattle.accepted.specs.Nodes.{Logic, answersAt};
-ghost use Rattle.accepted.specs.Operands.{Operand, TwoOperands};
+ghost use Rattle.accepted.specs.Operands.{Operand};
 ghost use Rattle.rows.specs.Rows.{Filled};
 
-// Inner: the answer of node n, a reachable one that is no Program, once the pairs below it are written.
+// Inner: the answer of node n, a reachable one that is no Program, once the pairs below it are written. Nor, And and
+// Xor have an arm each: with the operands read in one place and the kind asked for again behind them, as the plain
+// evaluator does it, a gate took 7.7 ns instead of 4.4.
 pub fn answer_of(
     nodes: &[u32],
     pool: &[u32],
@@ -41,10 +43,22 @@ pub fn answer_of(
     let kind = kind_of(nodes, n);
     match kind {
         0..=3 => leaf_of(nodes, bytes, n),
-        4 => gate_at(nodes, pool, bytes, base, work, n),
+        4 => {
+            let x = operand_answer(nodes, pool, bytes, base, work, n, 0);
+            let y = operand_answer(nodes, pool, bytes, base, work, n, 1);
+            nor_of(x, y)
+        }
         5 => mux_at(nodes, pool, bytes, base, work, n),
-        6 => gate_at(nodes, pool, bytes, base, work, n),
-        7 => gate_at(nodes, pool, bytes, base, work, n),
+        6 => {
+            let x = operand_answer(nodes, pool, bytes, base, work, n, 0);
+            let y = operand_answer(nodes, pool, bytes, base, work, n, 1);
+            and_of(x, y)
+        }
+        7 => {
+            let x = operand_answer(nodes, pool, bytes, base, work, n, 0);
+            let y = operand_answer(nodes, pool, bytes, base, work, n, 1);
+            xor_of(x, y)
+        }
         8 => not_of(operand_answer(nodes, pool, bytes, base, work, n, 0)),
         9 => lut_at(nodes, pool, bytes, base, work, n),
         10 => bus_at(nodes, pool, bytes, base, work, n),
@@ -70,22 +84,6 @@ fn operand_answer(
     ensures { λ r. ⌜ r ≡ nth (answersAt (now (nodes .entry)) (now (pool .entry)) (given (now (bytes .entry))) n) i ⌝ }
 {
     answer_at(work, base + operand(nodes, pool, n, i))
-}
-
-// Nor, And and Xor: both operands are looked at, then the operator decides.
-fn gate_at(nodes: &[u32], pool: &[u32], bytes: &[u8], base: usize, work: &[u64], n: usize) -> Answer
-    requires { ⌜ Filled (now nodes) (now pool) (given (now bytes)) base (now work) n ⌝ }
-    requires { ⌜ Logic (now nodes) (now pool) n ⌝ }
-    requires { ⌜ TwoOperands (kindAt (now nodes) n) ⌝ }
-    ensures { λ r. ⌜ r ≡ answer (given (now (bytes .entry))) (treeOf (now (nodes .entry)) (now (pool .entry)) n) ⌝ }
-{
-    let x = operand_answer(nodes, pool, bytes, base, work, n, 0);
-    let y = operand_answer(nodes, pool, bytes, base, work, n, 1);
-    match kind_of(nodes, n) {
-        4 => nor_of(x, y),
-        6 => and_of(x, y),
-        _ => xor_of(x, y),
-    }
 }
 
 // "Mux: the selector's failure; else s = 1 answers as a, s = 0 as b, and the other arm is not looked at"

@@ -4,6 +4,7 @@ use Rattle.accepted.specs.Nodes.{answersAt, answer-is, children-length}
 use Rattle.operators.specs.Folds.{BusTo, bus-start, bus-more, bus-done}
 use Rattle.operators.specs.Widths.{held-more}
 use Rattle.meaning.specs.Rules.Assignments.{given}
+use Rattle.meaning.specs.Rules.Answers.{step}
 use Rattle.meaning.specs.Rules.Trees.{childrenAt}
 use lib.ListN.{length}
 use Prim.Native.Nat.{_≤_, _-_}

@@ -4,7 +4,7 @@ use Rattle.accepted.specs.Nodes.{answersAt, answer-is, children-length}
 use Rattle.operators.specs.Folds.{RowTo, row-start, row-more, row-fails, row-done, row-lt}
 use Rattle.operators.specs.Widths.{held-lt}
 use Rattle.meaning.specs.Rules.Assignments.{given}
-use Rattle.meaning.specs.Rules.Answers.{nth, valueOf}
+use Rattle.meaning.specs.Rules.Answers.{nth, valueOf, step}
 use Rattle.meaning.specs.Rules.Trees.{childrenAt}
 use lib.ListN.{length}
 use Prim.Native.Nat.{_<_, _≤_, _-_}

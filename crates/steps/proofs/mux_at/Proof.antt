@@ -3,7 +3,7 @@ use borrow.Author.Tests.{lt-ltb}
 use Rattle.accepted.specs.Operands.{fixed, mux-failed, mux-arm, arm-lt}
 use Rattle.accepted.specs.Nodes.{answersAt, answer-is}
 use Rattle.meaning.specs.Rules.Assignments.{given}
-use Rattle.meaning.specs.Rules.Answers.{nth, muxOf}
+use Rattle.meaning.specs.Rules.Answers.{nth, step, muxOf}
 use Rattle.meaning.specs.declared.Answer.{Answer}
 use lib.Dec.{lit<}
 use Prim.Native.Nat.{_<_, _-_}
