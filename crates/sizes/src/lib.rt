@@ -1,6 +1,6 @@
 // Numbers 1, 2 and 10: the sizes of what is lent (document 01, "Numbers a call answers with"). The plain meaning is
-// that of meaning's Rules/Layout. A call that is brought one list asks `lent`; one that is brought more asks `sizes`
-// of each, then `room` of what `work_for` sums to.
+// that of meaning's Rules/Layout. A call that is brought one list asks `lent`; one that is brought two asks
+// `lent_both`.
 use meaning::Refusal;
 use meaning::limits::MOST_NODES;
 use meaning::limits::MOST_POOL;
@@ -22,6 +22,7 @@ ghost use Rattle.meaning.specs.Rules.Trees.{nodeCount};
 ghost use Rattle.meaning.specs.Rules.Refusals.{_then_};
 ghost use Rattle.meaning.specs.Rules.Layout.{withinLimits, workFor};
 ghost use Rattle.meaning.specs.Rules.Layout as rule;
+ghost use Rattle.sizes.specs.Lent.{lentBothRow};
 
 // 1: "node words are not a multiple of three"; 2: "a list exceeds its limit". Any words may be brought.
 pub fn sizes(nodes: &[u32], pool: &[u32]) -> Refusal
@@ -50,6 +51,25 @@ pub fn lent(nodes: &[u32], pool: &[u32], work: usize) -> Refusal
         return sized;
     }
     room(work_for(nodes, pool), work)
+}
+
+// Numbers 1 and 2 "for each list, first list first", then 10, of a call that is brought two lists and `work` words of
+// work space.
+pub fn lent_both(
+    nodes: &[u32],
+    pool: &[u32],
+    second_nodes: &[u32],
+    second_pool: &[u32],
+    work: usize,
+) -> Refusal
+    ensures { λ r. ⌜ r ≡ lentBothRow (now (nodes .entry)) (now (pool .entry)) (now («second_nodes» .entry)) (now («second_pool» .entry)) work ⌝ }
+{
+    let sized = first_refusal(sizes(nodes, pool), sizes(second_nodes, second_pool));
+    if sized.number != DONE {
+        return sized;
+    }
+    let asked = work_for(nodes, pool) + work_for(second_nodes, second_pool);
+    room(asked, work)
 }
 
 // 10: of `lent` words of work space, `asked` are needed, "summed over the lists brought".

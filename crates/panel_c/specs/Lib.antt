@@ -1,0 +1,2 @@
+-- the words of each answer
+pub mod Words

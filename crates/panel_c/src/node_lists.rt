@@ -1,0 +1,35 @@
+// The calls over node lists. A block begins with the number and the node of the refusal; 0 and 0 are done.
+use evaluator::eval;
+use verifier::verify_expr;
+ghost use mathlib.Core.Path.{_≡_};
+ghost use Rattle.meaning.specs.Rules.Calls.{verify, evaluate};
+ghost use Rattle.panel_c.specs.Words.{refusalWords};
+
+// `verify_expr`: number, node.
+#[no_mangle]
+pub extern "C" fn panel_verify(nodes: &[u32], pool: &[u32], work: &mut [u64], answer: &mut [u64; 2])
+    ensures { λ _. ⌜ now (answer .exit) ≡ refusalWords (verify (now (nodes .entry)) (now (pool .entry)) (now (work .entry)) .answer) ⌝ }
+    ensures { λ _. ⌜ now (work .exit) ≡ verify (now (nodes .entry)) (now (pool .entry)) (now (work .entry)) .work ⌝ }
+{
+    let refusal = verify_expr(nodes, pool, work);
+    *answer = [refusal.number as u64, refusal.node as u64];
+}
+
+// `eval`: number, node. The root's answer is the last pair of the output.
+#[no_mangle]
+pub extern "C" fn panel_evaluate(
+    nodes: &[u32],
+    pool: &[u32],
+    bytes: &[u8],
+    work: &mut [u64],
+    out: &mut [u64],
+    answer: &mut [u64; 2],
+)
+    ensures { λ _. ⌜ now (answer .exit) ≡ refusalWords (evaluate (now (nodes .entry)) (now (pool .entry)) (now (bytes .entry)) (now (work .entry)) (now (out .entry)) .answer .refusal) ⌝ }
+    ensures { λ _. ⌜ now (work .exit) ≡ evaluate (now (nodes .entry)) (now (pool .entry)) (now (bytes .entry)) (now (work .entry)) (now (out .entry)) .work ⌝ }
+    ensures { λ _. ⌜ now (out .exit) ≡ evaluate (now (nodes .entry)) (now (pool .entry)) (now (bytes .entry)) (now (work .entry)) (now (out .entry)) .out ⌝ }
+{
+    let evaluation = eval(nodes, pool, bytes, work, out);
+    let refusal = evaluation.refusal;
+    *answer = [refusal.number as u64, refusal.node as u64];
+}
