@@ -1,27 +1,23 @@
--- A call that nothing refuses: the list is prepared for the pass, the output has room, and after the pass the rows show the
--- root's answer and every pair.
-use Prim.Native.Nat.{ℕ, _+_, _*_, _-_, _≤_, _<_}
-use mathlib.Core.Path.{_≡_, subst}
+-- A call that nothing refuses: the list is prepared for the pass, the output has room, and after the pass the rows show every
+-- pair.
+use Prim.Native.Nat.{ℕ, _*_, _-_, _≤_, _<_}
+use mathlib.Core.Path.{_≡_}
 use mathlib.Core.List.{List}
-use native.Mathlib.Nat.{zero-add}
 use native.Mathlib.Omega.{arith}
 use lib.ListN.{length}
 use borrow.Author.Tests.{eqb-true, eq-eqb}
 use Rattle.meaning.specs.Rules.Limits.{workPerNode}
-use Rattle.meaning.specs.Rules.Trees.{nodeCount, treeOf}
-use Rattle.meaning.specs.Rules.Answers.{answer}
+use Rattle.meaning.specs.Rules.Trees.{nodeCount}
 use Rattle.meaning.specs.Rules.Assignments.{given}
-use Rattle.meaning.specs.Rules.Evaluable.{sound, shape, shapeCode, widthOf}
+use Rattle.meaning.specs.Rules.Evaluable.{sound}
 use Rattle.meaning.specs.Rules.Lent.{written, outputAfter}
 use Rattle.meaning.specs.Rules.Pairs.{pairs}
 use Rattle.meaning.specs.Rules.Refusals.{isDone, _then_}
 use Rattle.meaning.specs.Rules.Calls.{assigned, fitsPairs}
 use Rattle.meaning.specs.Laws.RefusalLaws.{then-first, then-rest}
 use Rattle.meaning.specs.Laws.ColumnLaws.{pairs-passed}
-use Rattle.columns.specs.Columns.{cell, shapeColumn, stateColumn, valueColumn}
 use Rattle.verifier.specs.Left.{soundWork}
-use Rattle.accepted.specs.Root.{logic-shape, root-logic}
-use Rattle.rows.specs.Rows.{Prepared, Filled, Wide, fromRow, row-shape, row-wide, row-answer}
+use Rattle.rows.specs.Rows.{Prepared, Filled}
 use Rattle.pass.specs.Prepared.{sound-prepares}
 use Rattle.pass.specs.Written.{withPairs, passed}
 use Rattle.evaluator.specs.Outcome.{restRow}
@@ -47,7 +43,7 @@ module _ (ns ps bytes work out : List ℕ) (room : workPerNode * nodeCount ns �
   abbrev pub afterPass : List ℕ
   afterPass = withPairs ns ps (given bytes) 0 (soundWork ns ps 0 work)
 
-  filled : Filled ns ps (given bytes) 0 afterPass (nodeCount ns)
+  pub filled : Filled ns ps (given bytes) 0 afterPass (nodeCount ns)
   filled = passed ns ps (given bytes) 0 (soundWork ns ps 0 work) prepared
 
   pub rows-room : workPerNode * nodeCount ns ≤ length afterPass
@@ -55,33 +51,6 @@ module _ (ns ps bytes work out : List ℕ) (room : workPerNode * nodeCount ns �
 
   pub rooted : 0 < nodeCount ns
   rooted = prepared .sound .1 .1 .0
-
-  -- the row of the root, as `0 + root` and as the code has it
-  at-root : (P : ℕ → Type 0) → P (0 + (nodeCount ns - 1)) → P (nodeCount ns - 1)
-  at-root P h = subst P (zero-add (nodeCount ns - 1)) h
-
-  pub root-wide : Wide afterPass (nodeCount ns - 1)
-  root-wide =
-      let s = prepared .sound in
-      let g = root-logic ns ps s in
-      at-root (Wide afterPass) (row-wide ns ps (given bytes) 0 afterPass (nodeCount ns) filled (nodeCount ns - 1) (g .inside) g (logic-shape ns ps s (nodeCount ns - 1) g))
-
-  pub root-shape : cell afterPass shapeColumn (nodeCount ns - 1) ≡ shapeCode (shape (treeOf ns ps (nodeCount ns - 1)))
-  root-shape =
-      let s = prepared .sound in
-      let g = root-logic ns ps s in
-      at-root (λ row. cell afterPass shapeColumn row ≡ shapeCode (shape (treeOf ns ps (nodeCount ns - 1))))
-      (row-shape ns ps (given bytes) 0 afterPass (nodeCount ns) filled (nodeCount ns - 1) (g .inside) g (logic-shape ns ps s (nodeCount ns - 1) g))
-
-  pub root-answer : fromRow (widthOf (shape (treeOf ns ps (nodeCount ns - 1)))) (cell afterPass stateColumn (nodeCount ns - 1)) (cell afterPass valueColumn (nodeCount ns - 1))
-      ≡ answer (given bytes) (treeOf ns ps (nodeCount ns - 1))
-  root-answer =
-      let s = prepared .sound in
-      let g = root-logic ns ps s in
-      at-root
-      (λ row. fromRow (widthOf (shape (treeOf ns ps (nodeCount ns - 1)))) (cell afterPass stateColumn row) (cell afterPass valueColumn row)
-      ≡ answer (given bytes) (treeOf ns ps (nodeCount ns - 1)))
-      (row-answer ns ps (given bytes) 0 afterPass (nodeCount ns) filled (nodeCount ns - 1) (g .inside) g (logic-shape ns ps s (nodeCount ns - 1) g))
 
   pub all-written : written (rowPairs afterPass (nodeCount ns)) out ≡ outputAfter (isDone (restRow ns ps bytes (length out))) (pairs ns ps bytes) out
   unfolding pairs

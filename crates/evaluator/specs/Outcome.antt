@@ -8,7 +8,7 @@ use borrow.Author.Tests.{eq-eqb, ne-eqb}
 use Rattle.meaning.specs.declared.Refusal.{Refusal}
 use Rattle.meaning.specs.declared.Evaluation.{Evaluation}
 use Rattle.meaning.specs.declared.Answer.{Answer}
-use Rattle.meaning.specs.Rules.Trees.{nodeCount, treeOf, rootOf}
+use Rattle.meaning.specs.Rules.Trees.{rootOf}
 use Rattle.meaning.specs.Rules.Answers.{answer, blank}
 use Rattle.meaning.specs.Rules.Assignments.{given}
 use Rattle.meaning.specs.Rules.Lent.{cleared, outputAfter}
@@ -44,9 +44,9 @@ module _ (ns ps bytes : List ℕ) where
   unfolding evaluation
   evaluation-refused r h = rw (ne-eqb (r .number) 0 h)
 
-  pub evaluation-done : (r : Refusal) (a : Answer) → r .number ≡ 0 → a ≡ answer (given bytes) (treeOf ns ps (nodeCount ns - 1))
+  pub evaluation-done : (r : Refusal) (a : Answer) → r .number ≡ 0 → a ≡ answer (given bytes) (rootOf ns ps)
       → record { refusal = r; answer = a } ≡ evaluation r ns ps bytes
-  unfolding evaluation rootOf
+  unfolding evaluation
   evaluation-done r a h e = rw (eq-eqb (r .number) 0 h, e)
 
   -- ---- the call

@@ -1,22 +1,23 @@
 -- `evaluated` meets its contract: a refusal leaves the output; past all tests the rows show the root's answer and every pair.
-use Rattle.evaluator.specs.Done.{output-room, prepared, afterPass, rows-room, rooted, root-wide, root-shape, root-answer, all-written}
+use Rattle.evaluator.specs.Done.{output-room, prepared, afterPass, filled, rows-room, rooted, all-written}
 use Rattle.evaluator.specs.Outcome.{refusedWith, restRow, evaluation-refused, evaluation-done}
 use Rattle.evaluator.specs.Output.{rowPairs}
 use Rattle.pass.specs.Written.{withPairs}
-use Rattle.rows.specs.Rows.{Prepared, Wide}
+use Rattle.rows.specs.Rows.{Prepared, Filled}
+use Rattle.rows.specs.Root.{root-there, root-wide, root-shown}
+use native.Mathlib.Nat.{zero-add}
 use Rattle.verifier.specs.Left.{soundWork}
 use Rattle.meaning.specs.Laws.RefusalLaws.{refused-output}
 use Rattle.meaning.specs.Rules.Pairs.{pairs}
 use Rattle.meaning.specs.Rules.Lent.{written}
-use Rattle.meaning.specs.Rules.Evaluable.{shape}
 use Rattle.meaning.specs.Rules.Assignments.{given}
 use Rattle.meaning.specs.Rules.Answers.{answer}
-use Rattle.meaning.specs.Rules.Trees.{nodeCount, treeOf}
+use Rattle.meaning.specs.Rules.Trees.{nodeCount, rootOf}
 use Rattle.meaning.specs.Rules.Limits.{workPerNode}
 use Rattle.meaning.specs.declared.Refusal.{Refusal}
 use native.Mathlib.Omega.{arith}
 use lib.ListN.{length}
-use Prim.Native.Nat.{ℕ, _+_, _*_, _-_, _≤_, _<_}
+use Prim.Native.Nat.{ℕ, _+_, _*_, _-_, _≤_}
 use mathlib.Core.List.{List}
 use mathlib.Core.Logic.{_≢_}
 use mathlib.Core.Path.{_≡_, sym, ap, ap₂, subst, _∙_}
@@ -113,11 +114,11 @@ answer-at-requires c κs =
     let ready : c .before .before .before .before .before .before .before .before .before .before .before .before .before .before .before .rest-refusal .last .1 .1 .1 .0 ≡ soundWork ns ps 0 work = c .before .before .before .before .before .before .before .before .before .before .before .before .before .before .before .rest-refusal .ensures .1 in
     let after : c .before .before .before .before .before .before .before .before .before .pass .last .1 .1 .1 .1 .0 ≡ afterPass ns ps bytes work out room done = c .before .before .before .before .before .before .before .before .before .pass .ensures ∙ ap (withPairs ns ps (given bytes) 0) ready in
     let count : c .before .before .before .before .before .before .node-count .result ≡ nodeCount ns = c .before .before .before .before .before .before .node-count .ensures in
-    let rows : workPerNode * nodeCount ns ≤ length (afterPass ns ps bytes work out room done) = rows-room ns ps bytes work out room done in
-    let one : 0 < nodeCount ns = rooted ns ps bytes work out room done in
-    let wide : Wide (afterPass ns ps bytes work out room done) (nodeCount ns - 1) = root-wide ns ps bytes work out room done in
-    let there : workPerNode * (nodeCount ns - 1 + 1) ≤ length (afterPass ns ps bytes work out room done) = omega arith in
-    rw (count, after) (there, wide)
+    let passed : List ℕ = afterPass ns ps bytes work out room done in
+    let full : Filled ns ps (given bytes) 0 passed (nodeCount ns) = filled ns ps bytes work out room done in
+    let row : ℕ = nodeCount ns - 1 in
+    let last : row ≡ 0 + row = sym (zero-add row) in
+    rw (count, after) (root-there ns ps (given bytes) 0 passed full row last, root-wide ns ps (given bytes) 0 passed full row last)
 
 same-length-2 : tie.Need-same-length-2
 same-length-2 c = search needs
@@ -141,9 +142,9 @@ returns-2 c =
     let after : c .before .before .before .before .before .before .before .before .before .before .pass .last .1 .1 .1 .1 .0 ≡ afterPass ns ps bytes work out room done = c .before .before .before .before .before .before .before .before .before .before .pass .ensures ∙ ap (withPairs ns ps (given bytes) 0) ready in
     let count : c .before .before .before .before .before .before .before .node-count .result ≡ nodeCount ns = c .before .before .before .before .before .before .before .node-count .ensures in
     let row : ℕ = nodeCount ns - 1 in
-    let shaped = root-shape ns ps bytes work out room done in
-    let shown = (rw (count, after) at (c .answer-at .ensures)) (shape (treeOf ns ps row)) shaped in
-    let told : c .answer-at .result ≡ answer (given bytes) (treeOf ns ps row) = shown ∙ root-answer ns ps bytes work out room done in
+    let last : row ≡ 0 + row = sym (zero-add row) in
+    let full : Filled ns ps (given bytes) 0 (afterPass ns ps bytes work out room done) (nodeCount ns) = filled ns ps bytes work out room done in
+    let told : c .answer-at .result ≡ answer (given bytes) (rootOf ns ps) = root-shown ns ps (given bytes) 0 (afterPass ns ps bytes work out room done) full row last (c .answer-at .result) (rw (count, after) at (c .answer-at .ensures)) in
     let pairs-are = c .before .before .before .before .write-pairs .ensures in (
       ap (λ (r : Refusal). record { refusal = r; answer = c .answer-at .result }) first ∙ evaluation-done ns ps bytes rest (c .answer-at .result) done told,
       pairs-are ∙ ap₂ (λ (w : List ℕ) (n : ℕ). written (rowPairs w n) out) after count ∙ all-written ns ps bytes work out room done,
