@@ -1,0 +1,2 @@
+-- two lists in one work space, and what one assignment leaves of it
+pub mod Trial
