@@ -1,6 +1,6 @@
 // An assignment's bytes by its number (document 01, "Comparison and separation": "bit j of assignment i drives the j-th
-// smallest variable"; "the second list's others are undriven"). Between two calls only the bytes of the variables change,
-// so the others are made undriven once, by `undriven`.
+// smallest variable"; "the second list's others are undriven"). Between two calls only the bytes of the variables
+// change, so the others are made undriven once, by `undriven`.
 use bits::bit_at;
 use meaning::limits::VARIABLE_COUNT;
 use operators::UNDRIVEN_BYTE;

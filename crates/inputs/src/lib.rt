@@ -1,9 +1,10 @@
 // The variables below a root, and an assignment of them by its number (document 01, "Comparison and separation": "bit j
 // of assignment i drives the j-th smallest variable below the first root"; 000, `get_input_set`). The plain meaning is
-// meaning's Rules/Assignments, `inputs` and `drive`. A caller has a list accepted and its marks in the work space (rows,
-// specs/Rows, `Prepared`), calls `inputs_of` once with room of `driving::no_variables`, and then `driving::drive` for
-// each index, on bytes that `driving::undriven` gave at first. That the variables are bytes of an assignment is
-// specs/Inputs, `inputs-below`; that the bytes are ready for the next index, specs/Driving, `still-undriven`.
+// meaning's Rules/Assignments, `inputs` and `drive`. A caller has a list accepted and its marks in the work space
+// (rows, specs/Rows, `Prepared`), calls `inputs_of` once with room of `driving::no_variables`, and then
+// `driving::drive` for each index, on bytes that `driving::undriven` gave at first. That the variables are numbers of
+// such bytes is specs/Inputs, `inputs-below`; that the bytes are ready for the next index, specs/Driving,
+// `still-undriven`.
 pub mod driving;
 
 use columns::MARK;
