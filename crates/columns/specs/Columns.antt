@@ -26,6 +26,9 @@ stateColumn = 2
 abbrev pub valueColumn : ℕ
 valueColumn = 3
 
+abbrev pub classColumn : ℕ
+classColumn = 4
+
 -- column q of the n rows from `base` on holds f 0, f 1, …
 abbrev pub Column : List ℕ → ℕ → ℕ → ℕ → (ℕ → ℕ) → Type 0
 Column work q base n f = (i : ℕ) → i < n → cell work q (base + i) ≡ f i

@@ -21,6 +21,9 @@ pub const STATE: usize = 2;
 // the value, 0 where there is none (Rules/Pairs, `valueAt`)
 pub const VALUE: usize = 3;
 
+// the lowest node with the same tree (classes, specs/Classes, `classAt`)
+pub const CLASS: usize = 4;
+
 // Inner: the word in a column of a row.
 pub fn get(work: &[u64], column: usize, row: usize) -> u64
     requires { ⌜ place column row < length (now work) ⌝ }

@@ -19,3 +19,6 @@ pub const WORK_PER_POOL: usize = 2;
 
 // "0 to 64 for Bus"
 pub const WIDEST_BUS: usize = 64;
+
+// "over 30 variables below the first root"
+pub const MOST_INPUTS: usize = 30;
