@@ -161,8 +161,8 @@ def over_the_limits():
     """Number 2 with other numbers, on either side; too little work space besides."""
     nodes, pool = of(*blank_nodes(model.MOST_NODES + 1)), of(0, 0, 0, pool=[0] * (model.MOST_POOL + 1))
     lists = small_lists()
-    for number in (0, 1, 3, 7, 8):
-        expect(refused(NOT_ALIGNED if number == 1 else OVER_LIMIT), lists[number][0], nodes, work=0)
+    for number, (other, _) in lists.items():
+        expect(refused(NOT_ALIGNED if number == 1 else OVER_LIMIT), other, nodes, work=0)
     # 2 of the first comes before 1 of the second
     for number in (1, 3):
         expect(refused(OVER_LIMIT), nodes, lists[number][0], work=0)

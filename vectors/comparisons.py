@@ -67,6 +67,8 @@ def expect_ways(answer, first, second, rng, count=3):
 
 # ---- the model over lists with more paths than can be followed
 
+model_tree = model.Tree
+
 
 class Trees:
     """Trees of which there is only one of each, so that equal ones are the same and unequal ones soon told apart."""
@@ -79,9 +81,6 @@ class Trees:
         if key not in self.made:
             self.made[key] = model_tree(kind, datum, children)
         return self.made[key]
-
-
-model_tree = model.Tree
 
 
 def kept(function):
