@@ -1,0 +1,102 @@
+//! The calls over node lists.
+use crate::answers::{Comparison, Evaluation};
+use crate::numbers::{done_or_refused, Error, Foreign};
+use crate::raw;
+
+const WORDS_PER_NODE: usize = 3;
+const WORK_PER_NODE: usize = 16;
+const WORK_PER_POOL: usize = 2;
+const WORDS_PER_PAIR: usize = 2;
+
+/// A network: nodes of three words each (kind, first, count) and the child numbers that they share.
+#[derive(Clone, Copy, Debug, PartialEq, Eq, Hash)]
+pub struct List<'a> {
+    /// Three words a node; the last node is the root.
+    pub nodes: &'a [u32],
+    /// The child numbers.
+    pub pool: &'a [u32],
+}
+
+impl List<'_> {
+    fn node_count(&self) -> usize {
+        self.nodes.len() / WORDS_PER_NODE
+    }
+}
+
+/// How many words of work space a call over these lists asks.
+pub fn work_for(lists: &[List]) -> usize {
+    lists.iter().map(|list| WORK_PER_NODE * list.node_count() + WORK_PER_POOL * list.pool.len()).sum()
+}
+
+/// Whether a list is laid out as it should be and keeps the rules of verification; an empty list does.
+///
+/// Refused with 1, 2, 10, then 3 to 5, then 6.
+pub fn verify(list: List, work: &mut [u64]) -> Result<(), Error> {
+    let mut answer = [0; 2];
+    // SAFETY: each pointer stands with its slice's own length, and the answer block has as many words as the call writes.
+    unsafe {
+        raw::panel_verify(
+            list.nodes.as_ptr(),
+            list.nodes.len(),
+            list.pool.as_ptr(),
+            list.pool.len(),
+            work.as_mut_ptr(),
+            work.len(),
+            &mut answer,
+        );
+    }
+    done_or_refused(answer[0], answer[1])
+}
+
+/// Every node's answer where byte v drives variable v: 0, 1, or 2 for undriven. A variable past the bytes is undriven.
+///
+/// The output needs two words a node; what is behind them is left as it was, and all of it where the call is refused.
+/// Refused with 1, 2, 10, then 3 to 8, then 12, then 19.
+pub fn evaluate<'a>(list: List, bytes: &[u8], work: &mut [u64], out: &'a mut [u64]) -> Result<Evaluation<'a>, Error> {
+    let mut answer = [0; 2];
+    // SAFETY: each pointer stands with its slice's own length, and the answer block has as many words as the call writes.
+    unsafe {
+        raw::panel_evaluate(
+            list.nodes.as_ptr(),
+            list.nodes.len(),
+            list.pool.as_ptr(),
+            list.pool.len(),
+            bytes.as_ptr(),
+            bytes.len(),
+            work.as_mut_ptr(),
+            work.len(),
+            out.as_mut_ptr(),
+            out.len(),
+            &mut answer,
+        );
+    }
+    done_or_refused(answer[0], answer[1])?;
+    let pairs = out.get(..WORDS_PER_PAIR * list.node_count()).ok_or(Foreign(answer[0]))?;
+    Ok(Evaluation::of(pairs)?)
+}
+
+/// Whether two lists answer alike, and where they first do not.
+///
+/// Refused with 1 and 2 of either list, 10, then 3 to 8 of the first list, 3 to 8 of the second, then 9.
+pub fn compare(first: List, second: List, work: &mut [u64]) -> Result<Comparison, Error> {
+    let mut answer = [0; 10];
+    // SAFETY: each pointer stands with its slice's own length, and the answer block has as many words as the call writes.
+    unsafe {
+        raw::panel_compare(
+            first.nodes.as_ptr(),
+            first.nodes.len(),
+            first.pool.as_ptr(),
+            first.pool.len(),
+            second.nodes.as_ptr(),
+            second.nodes.len(),
+            second.pool.as_ptr(),
+            second.pool.len(),
+            work.as_mut_ptr(),
+            work.len(),
+            &mut answer,
+        );
+    }
+    let [number, node, words @ ..] = answer;
+    done_or_refused(number, node)?;
+    Comparison::of(words)
+}
