@@ -1,9 +1,12 @@
 // The calls over node lists. A block begins with the number and the node of the refusal; 0 and 0 are done.
+use comparer::func_equiv;
+use comparison_words::ten_words;
 use evaluator::eval;
 use verifier::verify_expr;
 ghost use mathlib.Core.Path.{_≡_};
-ghost use Rattle.meaning.specs.Rules.Calls.{verify, evaluate};
+ghost use Rattle.meaning.specs.Rules.Calls.{verify, evaluate, compare};
 ghost use Rattle.panel_c.specs.Words.{refusalWords};
+ghost use Rattle.comparison_words.specs.Words.{comparisonWords};
 
 // `verify_expr`: number, node.
 #[no_mangle]
@@ -32,4 +35,21 @@ pub extern "C" fn panel_evaluate(
     let evaluation = eval(nodes, pool, bytes, work, out);
     let refusal = evaluation.refusal;
     *answer = [refusal.number as u64, refusal.node as u64];
+}
+
+// `func_equiv`: number, node, verdict, index, then state, width and value of the first root and of the second.
+#[no_mangle]
+pub extern "C" fn panel_compare(
+    nodes: &[u32],
+    pool: &[u32],
+    second_nodes: &[u32],
+    second_pool: &[u32],
+    work: &mut [u64],
+    answer: &mut [u64; 10],
+)
+    ensures { λ _. ⌜ now (answer .exit) ≡ comparisonWords (compare (now (nodes .entry)) (now (pool .entry)) (now («second_nodes» .entry)) (now («second_pool» .entry)) (now (work .entry)) .answer) ⌝ }
+    ensures { λ _. ⌜ now (work .exit) ≡ compare (now (nodes .entry)) (now (pool .entry)) (now («second_nodes» .entry)) (now («second_pool» .entry)) (now (work .entry)) .work ⌝ }
+{
+    let comparison = func_equiv(nodes, pool, second_nodes, second_pool, work);
+    *answer = ten_words(comparison);
 }

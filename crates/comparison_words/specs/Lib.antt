@@ -1,0 +1,2 @@
+-- the words of a comparison
+pub mod Words
