@@ -10,24 +10,24 @@ ghost use mathlib.Core.Path.{_≡_};
 ghost use Rattle.meaning.specs.Rules.Answers as answers;
 ghost use Rattle.meaning.specs.Rules.Comparison as rule;
 
-// Do both have a value, "one equal value"? "Widths count: a one-member bus equals a bit".
+// Do both have a value, "one equal value"?
 pub fn agree(first: Answer, second: Answer) -> bool
     ensures { λ r. ⌜ r ≡ rule.agree first second ⌝ }
 {
     let Answer::Value { width, value } = first else {
         return false;
     };
-    let Answer::Value {
-        width: other_width,
-        value: other_value,
-    } = second
-    else {
-        return false;
-    };
-    if width != other_width {
-        return false;
+    is_value(second, width, value)
+}
+
+// Is it that value? "Widths count: a one-member bus equals a bit".
+fn is_value(answer: Answer, width: u32, value: u64) -> bool
+    ensures { λ r. ⌜ r ≡ rule.sameAnswer (Answer.Value width value) answer ⌝ }
+{
+    match answer {
+        Answer::Value { width: w, value: v } => width == w && value == v,
+        Answer::Failed(_) => false,
     }
-    value == other_value
 }
 
 // "for Equiv the rest is zero"
