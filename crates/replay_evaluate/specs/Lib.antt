@@ -6,5 +6,3 @@ pub mod Inputs
 pub mod Pairs
 -- that there is room for a case
 pub mod Room
--- that a turn gets on in the text
-pub mod Turns

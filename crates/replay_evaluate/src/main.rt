@@ -26,21 +26,18 @@ use meaning::Refusal;
 use pairs::Pairs;
 use pairs::next_pairs;
 use replay_report::Outcome;
+use replay_report::Turn;
 use replay_report::report;
+use replay_report::told_answer;
+use replay_report::told_refusal;
+use replay_report::told_work;
 use replay_report::too_long;
 use room::byte_room;
 use room::out_room;
 ghost use Prim.Native.Nat.{_+_, _≤_};
 ghost use lib.ListN.{length};
 ghost use Rattle.replay_evaluate.specs.Room.{FitsInputs, FitsSpace};
-ghost use Rattle.replay_evaluate.specs.Turns.{GetsOn};
-
-// One case tried, with the offset behind it and 1 where it differs, else 0; no case more; or the offset of a fault.
-enum Turn {
-    Tried { next: usize, differ: u64 },
-    End,
-    Malformed(usize),
-}
+ghost use Rattle.replay_report.specs.Turns.{GetsOn};
 
 // What is seen of a call: its refusal, the root's answer, whether the work space is as expected, and whether the output
 // behind the pairs is untouched
@@ -54,16 +51,9 @@ struct Seen {
 // ---- one case
 
 fn told(number: u64, seen: Seen, pairs: bool) {
-    io::write_all(STDOUT_FILENO, b"case ");
-    io::print_decimal(STDOUT_FILENO, number);
-    io::write_all(STDOUT_FILENO, b" differs: answered ");
-    io::print_decimal(STDOUT_FILENO, seen.refusal.number as u64);
-    io::write_all(STDOUT_FILENO, b" at ");
-    io::print_decimal(STDOUT_FILENO, seen.refusal.node as u64);
-    told_root(seen.root);
-    if !seen.work {
-        io::write_all(STDOUT_FILENO, b", work space not as expected");
-    }
+    told_refusal(number, seen.refusal.number as u64, seen.refusal.node as u64);
+    told_answer(seen.root.state, seen.root.width, seen.root.value);
+    told_work(seen.work);
     if !pairs {
         io::write_all(STDOUT_FILENO, b", pairs not as expected");
     }
@@ -71,15 +61,6 @@ fn told(number: u64, seen: Seen, pairs: bool) {
         io::write_all(STDOUT_FILENO, b", output touched behind them");
     }
     io::write_all(STDOUT_FILENO, b"\n");
-}
-
-fn told_root(root: Words) {
-    io::write_all(STDOUT_FILENO, b", state ");
-    io::print_decimal(STDOUT_FILENO, root.state);
-    io::write_all(STDOUT_FILENO, b" width ");
-    io::print_decimal(STDOUT_FILENO, root.width);
-    io::write_all(STDOUT_FILENO, b" value ");
-    io::print_decimal(STDOUT_FILENO, root.value);
 }
 
 fn is_refusal(given: Refusal, expected: Expected) -> bool {

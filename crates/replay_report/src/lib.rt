@@ -1,6 +1,14 @@
-// What a program that reads cases from standard input says: how many there were and how many differ, or what is wrong
-// with its input. No contract can say what is written; each replay's output is recorded.
+// What a program that reads cases from standard input says: which differ, how many there were and how many differ, or
+// what is wrong with its input. No contract can say what is written; each replay's output is recorded. Beside it the
+// turn over one case, by which a replay's loop goes and ends (specs/Turns.antt: it gets on in the text).
+mod differs;
+mod turn;
+
+pub use differs::told_answer;
+pub use differs::told_refusal;
+pub use differs::told_work;
 use libc::STDOUT_FILENO;
+pub use turn::Turn;
 
 pub enum Outcome {
     Finished { cases: u64, differ: u64 },

@@ -16,33 +16,22 @@ use list_words::Entries;
 use list_words::next_list;
 use meaning::Refusal;
 use replay_report::Outcome;
+use replay_report::Turn;
 use replay_report::report;
+use replay_report::told_refusal;
+use replay_report::told_work;
 use replay_report::too_long;
 use verifier::verify_expr;
 ghost use Prim.Native.Nat.{_+_, _≤_};
 ghost use lib.ListN.{length};
 ghost use Rattle.replay_verify.specs.Headers.{Fits, Roomy};
-ghost use Rattle.replay_verify.specs.Turns.{GetsOn};
-
-// One case tried, with the offset behind it and 1 where it differs, else 0; no case more; or the offset of a fault.
-enum Turn {
-    Tried { next: usize, differ: u64 },
-    End,
-    Malformed(usize),
-}
+ghost use Rattle.replay_report.specs.Turns.{GetsOn};
 
 // ---- one case
 
 fn told(number: u64, given: Refusal, left: bool) {
-    io::write_all(STDOUT_FILENO, b"case ");
-    io::print_decimal(STDOUT_FILENO, number);
-    io::write_all(STDOUT_FILENO, b" differs: answered ");
-    io::print_decimal(STDOUT_FILENO, given.number as u64);
-    io::write_all(STDOUT_FILENO, b" at ");
-    io::print_decimal(STDOUT_FILENO, given.node as u64);
-    if !left {
-        io::write_all(STDOUT_FILENO, b", work space not as expected");
-    }
+    told_refusal(number, given.number as u64, given.node as u64);
+    told_work(left);
     io::write_all(STDOUT_FILENO, b"\n");
 }
 

@@ -1,5 +1,5 @@
 -- `next_case` meets its contract: a case that is given has room, and begins past where its row began.
-use Rattle.replay_evaluate.specs.Turns.{gets-on-from}
+use Rattle.replay_report.specs.Turns.{gets-on-from}
 use Rattle.replay_evaluate.specs.Headers.{Usable}
 use mathlib.Core.Path.{subst}
 use native.Mathlib.Omega.{arith}

@@ -1,5 +1,5 @@
 -- `replay` is safe and ends. The invariant: no more cases than bytes passed, and no more differences than cases.
-use Rattle.replay_evaluate.specs.Turns.{GetsOn}
+use Rattle.replay_report.specs.Turns.{GetsOn}
 use borrow.Author.Needs.{needs}
 use mathlib.Core.Path.{subst}
 use native.Mathlib.Omega.{arith}

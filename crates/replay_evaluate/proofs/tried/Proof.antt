@@ -1,5 +1,5 @@
 -- `tried` meets its contract: a case is tried from where its list and bytes end.
-use Rattle.replay_evaluate.specs.Turns.{gets-on-from}
+use Rattle.replay_report.specs.Turns.{gets-on-from}
 use Rattle.replay_evaluate.specs.Inputs.{Reaches}
 use mathlib.Core.Path.{subst}
 use lib.ListN.{length}

@@ -3,7 +3,7 @@ use lib.ListN.{length}
 use Prim.Native.Nat.{_+_}
 use native.Mathlib.Omega.{arith}
 use mathlib.Core.Path.{subst}
-use Rattle.replay_verify.specs.Turns.{gets-on-from}
+use Rattle.replay_report.specs.Turns.{gets-on-from}
 use Rattle.replay_verify.specs.Headers.{Usable}
 use borrow.Author.Needs.{needs}
 use Rattle.replay_verify.proofs.next_case.Statement.{statement}

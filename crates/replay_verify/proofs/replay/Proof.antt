@@ -5,7 +5,7 @@ use Prim.Native.Nat.{_+_, _-_, _≤_}
 use native.Mathlib.Omega.{arith}
 use mathlib.Core.Path.{_≡_, subst, refl}
 use borrow.Author.Needs.{needs}
-use Rattle.replay_verify.specs.Turns.{GetsOn}
+use Rattle.replay_report.specs.Turns.{GetsOn}
 use Rattle.replay_verify.proofs.replay.Statement.{statement}
 use Rattle.replay_verify.proofs.replay.Tie as tie
 

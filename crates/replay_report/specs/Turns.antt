@@ -1,8 +1,8 @@
 -- That a turn gets on in the text: what the loop over the cases ends by.
 use Prim.Native.Nat.{ℕ, _≤_}
 use native.Mathlib.Omega.{arith}
-use Rattle.replay_verify.specs.declared.Turn.{Turn}
-use Rattle.replay_verify.specs.declared.Turn.the-variants.{Tried, End, Malformed}
+use Rattle.replay_report.specs.declared.turn.Turn.{Turn}
+use Rattle.replay_report.specs.declared.turn.Turn.the-variants.{Tried, End, Malformed}
 
 -- a case tried ends at `from` or behind it, within a text of this length; it counts as one difference at most
 abbrev pub GetsOn : ℕ → ℕ → Turn → Type 0

@@ -1,0 +1,6 @@
+-- that a case's row gets on in the text
+pub mod Headers
+-- that reading its lists does
+pub mod Lists
+-- that there is room for a case
+pub mod Room

@@ -1,0 +1,2 @@
+-- that a turn gets on in the text
+pub mod Turns
