@@ -2,7 +2,7 @@
 use Prim.Native.Nat.{ℕ}
 use mathlib.Core.Path.{_≡_, refl}
 use mathlib.Core.List.{List}
-use lib.ListN.{replicate}
+use lib.ListN.{length, replicate, length-replicate}
 
 abbrev pub nodeRoom : ℕ
 nodeRoom = 12300
@@ -20,3 +20,7 @@ zeros n = replicate n 0
 pub zeros-are : (n : ℕ) → replicate n 0 ≡ zeros n
 unfolding zeros
 zeros-are n = refl
+
+pub zeros-length : (n : ℕ) → length (zeros n) ≡ n
+unfolding zeros
+zeros-length n = length-replicate n 0

@@ -1,4 +1,4 @@
--- A text that is one list with its two counts: how many node words, the node words, how many pool entries, the pool entries.
+-- Lists in a text, each with its two counts: how many node words, the node words, how many pool entries, the pool entries.
 use Prim.Native.Nat.{ℕ, _≤_}
 use mathlib.Core.Path.{_≡_}
 use mathlib.Core.Bool.{cond}
@@ -9,8 +9,10 @@ use Rattle.decimals.specs.Words.{nextWord}
 use Rattle.decimals.specs.Rows.{onWord}
 use Rattle.list_texts.specs.declared.Part.{Part}
 use Rattle.list_texts.specs.declared.Part.the-variants as part
-use Rattle.list_texts.specs.declared.ListRead.{ListRead}
-use Rattle.list_texts.specs.declared.ListRead.the-variants.{Whole, Bad, LeftOver, TooMany}
+use Rattle.list_texts.specs.declared.ListAt.{ListAt}
+use Rattle.list_texts.specs.declared.ListAt.the-variants.{Whole, Bad, TooMany}
+use Rattle.list_texts.specs.declared.Rest.{Rest}
+use Rattle.list_texts.specs.declared.Rest.the-variants as rest
 use Rattle.list_words.specs.Entries.{nextEntry, onEntry, nextEntries, onEntries, filled}
 
 -- ---- a count, and behind it so many words
@@ -18,7 +20,7 @@ use Rattle.list_words.specs.Entries.{nextEntry, onEntry, nextEntries, onEntries
 -- the words, where there is room for so many
 unfoldable pub countedWords : List ℕ → ℕ → ℕ → ℕ → Part
 countedWords text room count at =
-    cond (leb count room) (onEntries (part.Whole count) part.Bad (nextEntries text at count)) part.TooMany
+    cond (leb count room) (onEntries (part.Whole count) part.Bad (nextEntries text at count)) (part.TooMany at)
 
 unfoldable pub nextPart : List ℕ → ℕ → ℕ → Part
 nextPart text room at = onEntry (countedWords text room) part.Bad (nextEntry text at)
@@ -30,25 +32,27 @@ filledStart text old count at = cond (leb count (length old)) (filled text at (t
 unfoldable pub filledPart : List ℕ → ℕ → List ℕ → List ℕ
 filledPart text at old = onEntry (filledStart text old) (λ i. old) (nextEntry text at)
 
-abbrev pub onPart : {A : Type 0} → (ℕ → ℕ → A) → (ℕ → A) → A → Part → A
+abbrev pub onPart : {A : Type 0} → (ℕ → ℕ → A) → (ℕ → A) → (ℕ → A) → Part → A
 onPart whole bad many (part.Whole count next) = whole count next
 onPart whole bad many (part.Bad i) = bad i
-onPart whole bad many part.TooMany = many
+onPart whole bad many (part.TooMany i) = many i
 
--- ---- the node words, the pool entries, and then nothing but blanks
+-- ---- the node words, and behind them the pool entries
 
-unfoldable pub ended : List ℕ → ℕ → ℕ → ℕ → ListRead
-ended text words entries at = onWord (λ v next. LeftOver at) (Whole words entries) Bad (nextWord text at)
+unfoldable pub poolAt : List ℕ → ℕ → ℕ → ℕ → ListAt
+poolAt text room words at = onPart (Whole words) Bad TooMany (nextPart text room at)
 
-unfoldable pub withPool : List ℕ → ℕ → ℕ → ℕ → ListRead
-withPool text room words at = onPart (ended text words) Bad TooMany (nextPart text room at)
-
-unfoldable pub readList : List ℕ → ℕ → ℕ → ListRead
-readList text nodes pool = onPart (withPool text pool) Bad TooMany (nextPart text nodes 0)
+unfoldable pub listAt : List ℕ → ℕ → ℕ → ℕ → ListAt
+listAt text at nodes pool = onPart (poolAt text pool) Bad TooMany (nextPart text nodes at)
 
 -- what the pool's places hold afterwards: nothing new where the node words are not whole
-unfoldable pub filledPool : List ℕ → ℕ → List ℕ → List ℕ
-filledPool text nodes old = onPart (λ words next. filledPart text next old) (λ i. old) old (nextPart text nodes 0)
+unfoldable pub filledPool : List ℕ → ℕ → ℕ → List ℕ → List ℕ
+filledPool text at nodes old = onPart (λ words next. filledPart text next old) (λ i. old) (λ i. old) (nextPart text nodes at)
+
+-- ---- behind the lists: nothing but blanks, or what else there is
+
+unfoldable pub restFrom : List ℕ → ℕ → Rest
+restFrom text at = onWord (λ v next. rest.Words) rest.Blank rest.Bad (nextWord text at)
 
 -- ---- the counts are of words that are there
 
@@ -56,8 +60,7 @@ filledPool text nodes old = onPart (λ words next. filledPart text next old) (λ
 abbrev pub Starts : ℕ → List ℕ → Type 0
 Starts n xs = (n ≤ length xs) × (n ≡ length (take n xs))
 
-abbrev pub Fits : List ℕ → List ℕ → ListRead → Type 0
-Fits nodes pool (Whole words entries) = Starts words nodes × Starts entries pool
+abbrev pub Fits : List ℕ → List ℕ → ListAt → Type 0
+Fits nodes pool (Whole words entries next) = Starts words nodes × Starts entries pool
 Fits nodes pool (Bad i) = Unit
-Fits nodes pool (LeftOver i) = Unit
-Fits nodes pool TooMany = Unit
+Fits nodes pool (TooMany i) = Unit

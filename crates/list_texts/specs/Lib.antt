@@ -1,4 +1,4 @@
--- a whole text as one list with its two counts
+-- lists in a text, each with its two counts
 pub mod Counted
--- its steps, that the counts are within the places, and examples
+-- their steps, that the counts are within the places, no second outcome, examples
 pub mod CountedLaws

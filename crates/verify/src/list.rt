@@ -1,6 +1,6 @@
 // One list through the verifier, and its line.
-use super::room::WORK_ROOM;
 use libc::STDOUT_FILENO;
+use list_room::written::work_room;
 use meaning::Refusal;
 use meaning::numbers::DONE;
 use refusal_text::write_refusal;
@@ -8,13 +8,13 @@ use sizes::work_for;
 use verifier::verify_expr;
 ghost use Prim.Native.Nat.{_≤_};
 ghost use lib.ListN.{length};
-ghost use Rattle.verify.specs.Room.{workRoom, Taken};
+ghost use Rattle.list_room.specs.Written.{workRoom, Taken};
 
 // Writes `verifies`, or the refusal.
 pub(crate) fn verify(nodes: &[u32], pool: &[u32])
     requires { ⌜ Taken (now nodes) (now pool) ⌝ }
 {
-    let mut work = [0u64; WORK_ROOM];
+    let mut work = work_room();
     let refusal = answered(nodes, pool, &mut work);
     if refusal.number == DONE {
         io::write_all(STDOUT_FILENO, b"verifies\n");

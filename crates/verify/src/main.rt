@@ -2,7 +2,6 @@
 mod examples;
 mod file;
 mod list;
-mod room;
 
 use libc::STDOUT_FILENO;
 

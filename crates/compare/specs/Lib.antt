@@ -1,0 +1,2 @@
+-- the variables that a user is shown
+pub mod Shown

@@ -1,0 +1,2 @@
+-- a text that was read
+pub mod Texts

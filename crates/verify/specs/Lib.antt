@@ -1,2 +1,0 @@
--- the lists that the program has room for
-pub mod Room
