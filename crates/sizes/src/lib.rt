@@ -64,9 +64,9 @@ pub fn lent_both(
 ) -> Refusal
     ensures { λ r. ⌜ r ≡ lentBothRow (now (nodes .entry)) (now (pool .entry)) (now («second_nodes» .entry)) (now («second_pool» .entry)) work ⌝ }
 {
-    let sized = first_refusal(sizes(nodes, pool), sizes(second_nodes, second_pool));
-    if sized.number != DONE {
-        return sized;
+    let both = first_refusal(sizes(nodes, pool), sizes(second_nodes, second_pool));
+    if both.number != DONE {
+        return both;
     }
     let asked = work_for(nodes, pool) + work_for(second_nodes, second_pool);
     room(asked, work)
