@@ -1,6 +1,6 @@
 // The variables below the first root, for a user who reads an assignment or waits for an answer.
 use bits::power_of_two;
-use inputs::inputs_of;
+use inputs::get_input_set;
 use libc::STDERR_FILENO;
 use meaning::limits::MOST_INPUTS;
 use meaning::numbers::DONE;
@@ -39,7 +39,7 @@ pub(crate) fn variables_below(
     if refusal.number != DONE {
         return 0;
     }
-    inputs_of(nodes, pool, 0, work, variables)
+    get_input_set(nodes, pool, 0, work, variables)
 }
 
 // Over 30 there is nothing to try: equal trees are told without, and others get number 9.

@@ -2,7 +2,7 @@
 // meaning's Rules/Calls, `compare`, over Rules/Comparison: the answer and the work space of a call, for any words at all;
 // what a user reads from it is Claims/Demands, `demand-2-equiv` and its neighbours. A user calls `func_equiv`, whose
 // contract is that equation. The work is done by `verifier::sound` (numbers 3 to 8), `classes::deep_equals` (the tree
-// test), `inputs::inputs_of` (number 9) and, assignment after assignment, `trials::answers_at`; here stand the order of
+// test), `inputs::get_input_set` (number 9) and, assignment after assignment, `trials::answers_at`; here stand the order of
 // the refusals and the search (`lowest`).
 mod lowest;
 
@@ -12,7 +12,7 @@ use comparisons::equivalent;
 use comparisons::refused;
 use inputs::driving::no_variables;
 use inputs::driving::undriven;
-use inputs::inputs_of;
+use inputs::get_input_set;
 use lowest::lowest_deciding;
 use meaning::Comparison;
 use meaning::Refusal;
@@ -107,7 +107,7 @@ fn other_trees(
     ensures { λ r. ⌜ r ≡ otherAnswer (rootOf (now (nodes .entry)) (now (pool .entry))) (rootOf (now («second_nodes» .entry)) (now («second_pool» .entry))) ⌝ }
 {
     let mut room = no_variables();
-    let count = inputs_of(nodes, pool, 0, work, &mut room);
+    let count = get_input_set(nodes, pool, 0, work, &mut room);
     let few = require(count <= MOST_INPUTS, MANY_INPUTS);
     if few.number != DONE {
         return refused(few);

@@ -92,7 +92,7 @@ pub all-tried : (t : Tree) (n : ℕ) → n ≡ variableCount → select (λ v. o
 unfolding inputs
 all-tried t n e = ap (select (λ v. occurs v t)) e
 
--- so many are found: no second count meets the promise of `inputs_of`
+-- so many are found: no second count meets the promise of `get_input_set`
 pub count-is : (t : Tree) (vs : List ℕ) (r : ℕ) → r ≤ length vs → take r vs ≡ inputs t → length (inputs t) ≡ r
 count-is t vs r h e = sym (ap length e) ∙ length-take-le r vs h
 

@@ -1,7 +1,7 @@
 // The variables below a root, and an assignment of them by its number (document 01, "Comparison and separation": "bit j
 // of assignment i drives the j-th smallest variable below the first root"; 000, `get_input_set`). The plain meaning is
 // meaning's Rules/Assignments, `inputs` and `drive`. A caller has a list accepted and its marks in the work space
-// (rows, specs/Rows, `Prepared`), calls `inputs_of` once with room of `driving::no_variables`, and then
+// (rows, specs/Rows, `Prepared`), calls `get_input_set` once with room of `driving::no_variables`, and then
 // `driving::drive` for each index, on bytes that `driving::undriven` gave at first. That the variables are numbers of
 // such bytes is specs/Inputs, `inputs-below`; that the bytes are ready for the next index, specs/Driving,
 // `still-undriven`.
@@ -26,7 +26,7 @@ ghost use Rattle.inputs.specs.Inputs.{isInput};
 
 // Inner: the variables below the root, lowest number first, at the start of `variables`; answers how many they are. The
 // pool is lent for the contract alone, here and below: which nodes the root reaches is in the marks.
-pub fn inputs_of(
+pub fn get_input_set(
     nodes: &[u32],
     pool: &[u32],
     base: usize,

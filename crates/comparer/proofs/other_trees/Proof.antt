@@ -25,11 +25,11 @@ use Rattle.comparer.proofs.other_trees.Tie as tie
 no-variables-requires : tie.Need-no-variables-requires
 no-variables-requires c κs = search needs
 
-slice-aggregate-inputs-of : tie.Need-slice-aggregate-inputs-of
-slice-aggregate-inputs-of c = search needs
+slice-aggregate-get-input-set : tie.Need-slice-aggregate-get-input-set
+slice-aggregate-get-input-set c = search needs
 
-inputs-of-requires : tie.Need-inputs-of-requires
-inputs-of-requires c κs =
+get-input-set-requires : tie.Need-get-input-set-requires
+get-input-set-requires c κs =
     let s = c .before .before .before .before .before .before .before .before in
     let ns : List ℕ = s .args .nodes .now in
     let ps : List ℕ = s .args .pool .now in
@@ -63,11 +63,11 @@ returns c =
     let u : Tree = rootOf ms qs in
     let ready : BothPrepared ns ps ms qs work = s .pre in
     let size : length (c .before .before .before .before .before .before .before .before .no-variables .result) ≡ variableCount = ap length (c .before .before .before .before .before .before .before .before .no-variables .ensures) ∙ blanks-length variableCount in
-    let k : ℕ = c .before .before .before .before .before .inputs-of .result in
-    let room : List ℕ = c .before .before .before .before .before .inputs-of .last .1 .1 .1 .1 .0 in
-    let held : length room ≡ variableCount = c .before .before .before .before .before .inputs-of .kept .1 .1 .1 .1 .0 ∙ size in
-    let within : k ≤ length room = omega (arith, held, c .before .before .before .before .before .inputs-of .ensures .0) in
-    let named : take k room ≡ inputs t = c .before .before .before .before .before .inputs-of .ensures .1 in
+    let k : ℕ = c .before .before .before .before .before .get-input-set .result in
+    let room : List ℕ = c .before .before .before .before .before .get-input-set .last .1 .1 .1 .1 .0 in
+    let held : length room ≡ variableCount = c .before .before .before .before .before .get-input-set .kept .1 .1 .1 .1 .0 ∙ size in
+    let within : k ≤ length room = omega (arith, held, c .before .before .before .before .before .get-input-set .ensures .0) in
+    let named : take k room ≡ inputs t = c .before .before .before .before .before .get-input-set .ensures .1 in
     let count : length (inputs t) ≡ k = count-is t room k within named in
     let few : c .before .before .before .require .result ≡ fewRow t = c .before .before .before .require .ensures ∙ ap (λ (n : ℕ). require (leb n mostInputs) manyInputs) (sym count) in
     let refused : fewRow t .number ≢ 0 = λ e. omega (arith, c .before .if1 .taken, ap (λ (r : Refusal). r .number) few, e) in
@@ -88,11 +88,11 @@ array-share-prefix-room c =
     let u : Tree = rootOf ms qs in
     let ready : BothPrepared ns ps ms qs work = s .pre in
     let size : length (c .before .before .before .before .before .before .before .before .no-variables .result) ≡ variableCount = ap length (c .before .before .before .before .before .before .before .before .no-variables .ensures) ∙ blanks-length variableCount in
-    let k : ℕ = c .before .before .before .before .before .inputs-of .result in
-    let room : List ℕ = c .before .before .before .before .before .inputs-of .last .1 .1 .1 .1 .0 in
-    let held : length room ≡ variableCount = c .before .before .before .before .before .inputs-of .kept .1 .1 .1 .1 .0 ∙ size in
-    let within : k ≤ length room = omega (arith, held, c .before .before .before .before .before .inputs-of .ensures .0) in
-    let named : take k room ≡ inputs t = c .before .before .before .before .before .inputs-of .ensures .1 in
+    let k : ℕ = c .before .before .before .before .before .get-input-set .result in
+    let room : List ℕ = c .before .before .before .before .before .get-input-set .last .1 .1 .1 .1 .0 in
+    let held : length room ≡ variableCount = c .before .before .before .before .before .get-input-set .kept .1 .1 .1 .1 .0 ∙ size in
+    let within : k ≤ length room = omega (arith, held, c .before .before .before .before .before .get-input-set .ensures .0) in
+    let named : take k room ≡ inputs t = c .before .before .before .before .before .get-input-set .ensures .1 in
     let count : length (inputs t) ≡ k = count-is t room k within named in
     omega (arith, within, held)
 
@@ -108,11 +108,11 @@ slice-aggregate-lowest-deciding c =
     let u : Tree = rootOf ms qs in
     let ready : BothPrepared ns ps ms qs work = s .pre in
     let size : length (c .before .before .before .before .before .before .before .before .before .no-variables .result) ≡ variableCount = ap length (c .before .before .before .before .before .before .before .before .before .no-variables .ensures) ∙ blanks-length variableCount in
-    let k : ℕ = c .before .before .before .before .before .before .inputs-of .result in
-    let room : List ℕ = c .before .before .before .before .before .before .inputs-of .last .1 .1 .1 .1 .0 in
-    let held : length room ≡ variableCount = c .before .before .before .before .before .before .inputs-of .kept .1 .1 .1 .1 .0 ∙ size in
-    let within : k ≤ length room = omega (arith, held, c .before .before .before .before .before .before .inputs-of .ensures .0) in
-    let named : take k room ≡ inputs t = c .before .before .before .before .before .before .inputs-of .ensures .1 in
+    let k : ℕ = c .before .before .before .before .before .before .get-input-set .result in
+    let room : List ℕ = c .before .before .before .before .before .before .get-input-set .last .1 .1 .1 .1 .0 in
+    let held : length room ≡ variableCount = c .before .before .before .before .before .before .get-input-set .kept .1 .1 .1 .1 .0 ∙ size in
+    let within : k ≤ length room = omega (arith, held, c .before .before .before .before .before .before .get-input-set .ensures .0) in
+    let named : take k room ≡ inputs t = c .before .before .before .before .before .before .get-input-set .ensures .1 in
     let count : length (inputs t) ≡ k = count-is t room k within named in
     sym (length-take-le k room within)
 
@@ -131,11 +131,11 @@ lowest-deciding-requires c κs =
     let u : Tree = rootOf ms qs in
     let ready : BothPrepared ns ps ms qs work = s .pre in
     let size : length (c .before .before .before .before .before .before .before .before .before .before .before .no-variables .result) ≡ variableCount = ap length (c .before .before .before .before .before .before .before .before .before .before .before .no-variables .ensures) ∙ blanks-length variableCount in
-    let k : ℕ = c .before .before .before .before .before .before .before .before .inputs-of .result in
-    let room : List ℕ = c .before .before .before .before .before .before .before .before .inputs-of .last .1 .1 .1 .1 .0 in
-    let held : length room ≡ variableCount = c .before .before .before .before .before .before .before .before .inputs-of .kept .1 .1 .1 .1 .0 ∙ size in
-    let within : k ≤ length room = omega (arith, held, c .before .before .before .before .before .before .before .before .inputs-of .ensures .0) in
-    let named : take k room ≡ inputs t = c .before .before .before .before .before .before .before .before .inputs-of .ensures .1 in
+    let k : ℕ = c .before .before .before .before .before .before .before .before .get-input-set .result in
+    let room : List ℕ = c .before .before .before .before .before .before .before .before .get-input-set .last .1 .1 .1 .1 .0 in
+    let held : length room ≡ variableCount = c .before .before .before .before .before .before .before .before .get-input-set .kept .1 .1 .1 .1 .0 ∙ size in
+    let within : k ≤ length room = omega (arith, held, c .before .before .before .before .before .before .before .before .get-input-set .ensures .0) in
+    let named : take k room ≡ inputs t = c .before .before .before .before .before .before .before .before .get-input-set .ensures .1 in
     let count : length (inputs t) ≡ k = count-is t room k within named in
     let few : c .before .before .before .before .before .before .require .result ≡ fewRow t = c .before .before .before .before .before .before .require .ensures ∙ ap (λ (n : ℕ). require (leb n mostInputs) manyInputs) (sym count) in
     let passed : fewRow t .number ≡ 0 = ap (λ (r : Refusal). r .number) (sym few) ∙ c .before .before .before .before .if1 .left in
@@ -158,11 +158,11 @@ returns-2 c =
     let u : Tree = rootOf ms qs in
     let ready : BothPrepared ns ps ms qs work = s .pre in
     let size : length (c .before .before .before .before .before .before .before .before .before .before .before .before .before .before .before .no-variables .result) ≡ variableCount = ap length (c .before .before .before .before .before .before .before .before .before .before .before .before .before .before .before .no-variables .ensures) ∙ blanks-length variableCount in
-    let k : ℕ = c .before .before .before .before .before .before .before .before .before .before .before .before .inputs-of .result in
-    let room : List ℕ = c .before .before .before .before .before .before .before .before .before .before .before .before .inputs-of .last .1 .1 .1 .1 .0 in
-    let held : length room ≡ variableCount = c .before .before .before .before .before .before .before .before .before .before .before .before .inputs-of .kept .1 .1 .1 .1 .0 ∙ size in
-    let within : k ≤ length room = omega (arith, held, c .before .before .before .before .before .before .before .before .before .before .before .before .inputs-of .ensures .0) in
-    let named : take k room ≡ inputs t = c .before .before .before .before .before .before .before .before .before .before .before .before .inputs-of .ensures .1 in
+    let k : ℕ = c .before .before .before .before .before .before .before .before .before .before .before .before .get-input-set .result in
+    let room : List ℕ = c .before .before .before .before .before .before .before .before .before .before .before .before .get-input-set .last .1 .1 .1 .1 .0 in
+    let held : length room ≡ variableCount = c .before .before .before .before .before .before .before .before .before .before .before .before .get-input-set .kept .1 .1 .1 .1 .0 ∙ size in
+    let within : k ≤ length room = omega (arith, held, c .before .before .before .before .before .before .before .before .before .before .before .before .get-input-set .ensures .0) in
+    let named : take k room ≡ inputs t = c .before .before .before .before .before .before .before .before .before .before .before .before .get-input-set .ensures .1 in
     let count : length (inputs t) ≡ k = count-is t room k within named in
     let few : c .before .before .before .before .before .before .before .before .before .before .require .result ≡ fewRow t = c .before .before .before .before .before .before .before .before .before .before .require .ensures ∙ ap (λ (n : ℕ). require (leb n mostInputs) manyInputs) (sym count) in
     let passed : fewRow t .number ≡ 0 = ap (λ (r : Refusal). r .number) (sym few) ∙ c .before .before .before .before .before .before .before .before .if1 .left in
@@ -174,8 +174,8 @@ other-trees-spec =
     tie.close
     (tie.spec
     no-variables-requires
-    slice-aggregate-inputs-of
-    inputs-of-requires
+    slice-aggregate-get-input-set
+    get-input-set-requires
     require-requires
     refused-requires
     same-length

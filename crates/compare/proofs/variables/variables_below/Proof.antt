@@ -48,8 +48,8 @@ returns-2 c =
     let refused : sound ns ps .number ≢ 0 = λ e. omega (arith, c .if2 .taken, ap (λ (r : Refusal). r .number) told, e) in
     ((omega arith, refl), sym (none-sound ns ps sized refused))
 
-inputs-of-requires : tie.Need-inputs-of-requires
-inputs-of-requires c κs =
+get-input-set-requires : tie.Need-get-input-set-requires
+get-input-set-requires c κs =
     let s = c .before .before .before .before .before .before .before .before .before .before .before .before .before .before .before in
     let ns : List ℕ = s .args .nodes .now in
     let ps : List ℕ = s .args .pool .now in
@@ -77,8 +77,8 @@ returns-3 c =
     let sized : sizes ns ps .number ≡ 0 = ap (λ (r : Refusal). r .number) (sym first) ∙ c .before .before .before .before .before .before .before .before .before .before .before .if1 .left in
     let told : c .before .before .before .before .before .before .before .before .before .sound .result ≡ sound ns ps = c .before .before .before .before .before .before .before .before .before .sound .ensures .0 in
     let done : sound ns ps .number ≡ 0 = ap (λ (r : Refusal). r .number) (sym told) ∙ c .before .before .before .before .before .if2 .left in
-    let few : c .before .before .inputs-of .result ≤ length (c .before .before .inputs-of .last .1 .1 .1 .1 .0) = omega (arith, c .before .before .inputs-of .ensures .0, c .before .before .inputs-of .kept .1 .1 .1 .1 .0, s .pre .1 .1) in
-    ((few, sym (length-take-le (c .before .before .inputs-of .result) (c .before .before .inputs-of .last .1 .1 .1 .1 .0) few)), c .before .before .inputs-of .ensures .1 ∙ sym (all-shown ns ps sized done))
+    let few : c .before .before .get-input-set .result ≤ length (c .before .before .get-input-set .last .1 .1 .1 .1 .0) = omega (arith, c .before .before .get-input-set .ensures .0, c .before .before .get-input-set .kept .1 .1 .1 .1 .0, s .pre .1 .1) in
+    ((few, sym (length-take-le (c .before .before .get-input-set .result) (c .before .before .get-input-set .last .1 .1 .1 .1 .0) few)), c .before .before .get-input-set .ensures .1 ∙ sym (all-shown ns ps sized done))
 
 pub variables-below-spec : {M : Type 1} → statement M
 variables-below-spec =
@@ -89,7 +89,7 @@ variables-below-spec =
     sound-requires
     same-length
     returns-2
-    inputs-of-requires
+    get-input-set-requires
     same-length-2
     same-length-3
     returns-3)

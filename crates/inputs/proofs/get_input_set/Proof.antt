@@ -1,4 +1,4 @@
--- `inputs_of` meets its contract: the variables tried so far that occur are kept, in order.
+-- `get_input_set` meets its contract: the variables tried so far that occur are kept, in order.
 use Rattle.inputs.specs.Inputs.{keep-count, keep-turn, all-tried}
 use Rattle.meaning.specs.Rules.Assignments.{occurs, select}
 use Rattle.meaning.specs.Rules.Trees.{rootOf}
@@ -9,8 +9,8 @@ use native.Mathlib.Omega.{arith}
 use Prim.Native.Nat.{ℕ, _≤_, _<_, _-_}
 use mathlib.Core.Bool.{Bool}
 use mathlib.Core.Path.{_≡_, refl, _∙_}
-use Rattle.inputs.proofs.inputs_of.Statement.{statement}
-use Rattle.inputs.proofs.inputs_of.Tie as tie
+use Rattle.inputs.proofs.get_input_set.Statement.{statement}
+use Rattle.inputs.proofs.get_input_set.Tie as tie
 
 abbrev Inv-loop : tie.InvT-loop
 Inv-loop nodes pool base work variables₀ count₀ v₀ variables count v =
@@ -61,8 +61,8 @@ returns c =
     let last : l .v ≡ variableCount = omega (arith, l .inv .0) in
     (omega (arith, l .inv .0, l .inv .1), l .inv .3 ∙ all-tried (rootOf (s .args .nodes .now) (s .args .pool .now)) (l .v) last)
 
-pub inputs-of-spec : {M : Type 1} → statement M
-inputs-of-spec =
+pub get-input-set-spec : {M : Type 1} → statement M
+get-input-set-spec =
     tie.close
     (tie.spec
     Inv-loop
