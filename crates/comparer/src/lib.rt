@@ -1,9 +1,9 @@
-// The comparison (document 01, "Comparison and separation", "Order"; 000, `func_equiv`): demand 2. The plain meaning is
-// meaning's Rules/Calls, `compare`, over Rules/Comparison: the answer and the work space of a call, for any words at all;
-// what a user reads from it is Claims/Demands, `demand-2-equiv` and its neighbours. A user calls `func_equiv`, whose
-// contract is that equation. The work is done by `verifier::sound` (numbers 3 to 8), `classes::deep_equals` (the tree
-// test), `inputs::get_input_set` (number 9) and, assignment after assignment, `trials::answers_at`; here stand the order of
-// the refusals and the search (`lowest`).
+// The comparison (document 01, "Comparison and separation", "Order"; 000, `func_equiv`): demand 2. The plain meaning
+// is meaning's Rules/Calls, `compare`, over Rules/Comparison: the answer and the work space of a call, for any words
+// at all; what a user reads from it is Claims/Demands, `demand-2-equiv` and its neighbours. A user calls `func_equiv`,
+// whose contract is that equation. The work is done by `verifier::sound` (numbers 3 to 8), `classes::deep_equals` (the
+// tree test), `inputs::get_input_set` (number 9) and, assignment after assignment, `trials::answers_at`; here stand
+// the order of the refusals and the search (`lowest`).
 mod lowest;
 
 use classes::deep_equals;
@@ -33,8 +33,8 @@ ghost use Rattle.meaning.specs.Rules.Calls as calls;
 ghost use Rattle.trials.specs.Trial.{BothPrepared};
 ghost use Rattle.comparer.specs.Outcome.{bothRow, restAnswer, otherAnswer};
 
-// Numbers 1 and 2 of the first list, then of the second; 10; 3 to 8 of the first, then of the second; the tree test; 9; and
-// then the verdict, for any input. The work space is untouched after 1, 2 and 10, and else all zeros.
+// Numbers 1 and 2 of the first list, then of the second; 10; 3 to 8 of the first, then of the second; the tree test;
+// 9; and then the verdict, for any input. The work space is untouched after 1, 2 and 10, and else all zeros.
 pub fn func_equiv(
     nodes: &[u32],
     pool: &[u32],

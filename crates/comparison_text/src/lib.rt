@@ -5,8 +5,8 @@ use meaning::Check;
 use meaning::Comparison;
 use meaning::Failure;
 
-// The verdict; and where an assignment decides, which one, variable by variable, and both answers. The variables are those
-// below the first root, lowest first.
+// The verdict; and where an assignment decides, which one, variable by variable, and both answers. The variables are
+// those below the first root, lowest first.
 pub fn write_comparison(fd: i32, comparison: Comparison, variables: &[usize]) {
     let verdict = comparison.verdict;
     match verdict {

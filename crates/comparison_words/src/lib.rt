@@ -1,5 +1,5 @@
-// A comparison's result as ten words (include/panel.h; document 01, "The result carries verdict, i and both answers"): what
-// crosses the C interface. The plain meaning is specs/Words, `comparisonWords`.
+// A comparison's result as ten words (include/panel.h; document 01, "The result carries verdict, i and both answers"):
+// what crosses the C interface. The plain meaning is specs/Words, `comparisonWords`.
 use answer_words::words_of;
 use meaning::Check;
 use meaning::Comparison;

@@ -1,4 +1,5 @@
-// The truth-table routines. A block is the number (0, or 13 out of range) and two words: the value and 0, or two values.
+// The truth-table routines. A block is the number (0, or 13 out of range) and two words: the value and 0, or two
+// values.
 use meaning::numbers::BAD_TABLE;
 use table_words::of_bit_vector;
 use table_words::of_cofactors;
