@@ -4,16 +4,14 @@ use Prim.Native.Nat.{ℕ, zero, suc, _-_, _<_}
 use mathlib.Core.Path.{_≡_, refl, ap}
 use mathlib.Core.Logic.{_≢_}
 use mathlib.Core.List.{List, [], _∷_}
-use mathlib.Core.Bool.{true, false, not, _&&_, _||_, or-true}
+use mathlib.Core.Bool.{true, false, not, _&&_, _||_}
 use native.Mathlib.Omega.{arith}
 use native.Mathlib.Decide.{decLt}
 use lib.ListN.{length, getD, drop, length-take, length-drop}
-use lib.Dec.{eqb}
-use borrow.Author.Tests.{eq-eqb, ltb-true, lt-ltb, le-ltb}
+use borrow.Author.Tests.{ltb-true, lt-ltb, le-ltb}
 use Rattle.meaning.specs.declared.Answer.{Answer}
 use Rattle.meaning.specs.Rules.Kinds.{kindOf, mayHave, constWord, programWord, variableWord}
 use Rattle.meaning.specs.Rules.Trees.{Tree, Forest, node, trees, forest, nodeCount, kindAt, firstAt, countAt, datumAt, childrenAt, treeOf}
-use Rattle.meaning.specs.Rules.Refusals.{some}
 use Rattle.meaning.specs.Rules.Layout.{firstFits}
 use Rattle.meaning.specs.Rules.Reach.{markOf}
 use Rattle.meaning.specs.Rules.Verification.{wrong, isProgram}
@@ -23,6 +21,7 @@ use Rattle.meaning.specs.Claims.Column.{WellLaid, Sound}
 use Rattle.meaning.specs.Laws.BoolLaws.{true-false, and-left, and-right, not-is-false, or-left-false}
 use Rattle.meaning.specs.Laws.TreeLaws.{tree-at}
 use Rattle.meaning.specs.Laws.ReachLaws.{reach-child}
+use Rattle.lists.specs.Scan.{some-at}
 use Rattle.lists.specs.Laid.{part-fits, children-below}
 
 -- ---- a node that has an answer: reachable, and no Program
@@ -61,11 +60,6 @@ module _ (f : ℕ → Tree) where
   nth-answer α (c ∷ cs) (suc i) h = nth-answer α cs i (omega arith)
 
 -- each entry of a list is in it
-some-at : (cs : List ℕ) (i : ℕ) → i < length cs → some (eqb (getD cs i 0)) cs ≡ true
-some-at [] i h = absurd (omega arith)
-some-at (c ∷ cs) zero h = rw (eq-eqb c c refl)
-some-at (c ∷ cs) (suc i) h = rw (some-at cs i (omega arith)) (or-true (eqb (getD cs i 0) c))
-
 -- kinds 0 to 3 have no children
 leaf-arity : (k : ℕ) → k < 4 → mayHave (kindOf k) 0 ≡ true
 leaf-arity zero h = refl

@@ -1,9 +1,9 @@
 -- Two nodes are alike by their words and by their children's classes: the trees of the children need not be walked.
-use Prim.Native.Nat.{ℕ, zero, suc, _+_, _≤_, _<_}
+use Prim.Native.Nat.{ℕ, suc, _+_, _≤_, _<_}
 use mathlib.Core.Path.{_≡_, refl, sym, ap, ap₂, _∙_}
 use mathlib.Core.Logic.{_≢_}
 use mathlib.Core.List.{List, [], _∷_}
-use mathlib.Core.Bool.{Bool, true, false, _&&_, or-true}
+use mathlib.Core.Bool.{Bool, true, false, _&&_}
 use native.Mathlib.Omega.{arith}
 use native.Mathlib.Numerals.{add-one}
 use native.Mathlib.Nat.{zero-add}
@@ -12,10 +12,10 @@ use lib.Seq.{drop-cons}
 use lib.Dec.{ltb, eqb}
 use borrow.Author.Tests.{lt-ltb, eq-eqb, ne-eqb}
 use Rattle.meaning.specs.Rules.Trees.{Tree, same, sameAll, forest, nodeCount, kindAt, datumAt, childrenAt, treeOf}
-use Rattle.meaning.specs.Rules.Refusals.{some}
 use Rattle.meaning.specs.Rules.Reach.{markOf}
 use Rattle.meaning.specs.Laws.ReachLaws.{reach-child}
 use Rattle.meaning.specs.Laws.TreeLaws.{tree-at}
+use Rattle.lists.specs.Scan.{some-at}
 use Rattle.lists.specs.Laid.{children-below}
 use Rattle.columns.specs.Columns.{place, cell, classColumn}
 use Rattle.classes.specs.Classes.{hasTree, classOf, class-same, class-marked}
@@ -66,11 +66,6 @@ module _ (work : List ℕ) (base : ℕ) where
     classes-done h k = rw (drop-of-length-le cs h, drop-of-length-le ds k)
 
 -- ---- from the children's classes to their trees
-some-at : (cs : List ℕ) (i : ℕ) → i < length cs → some (eqb (getD cs i 0)) cs ≡ true
-some-at [] i h = absurd (omega arith)
-some-at (c ∷ cs) zero h = rw (eq-eqb c c refl)
-some-at (c ∷ cs) (suc i) h = rw (some-at cs i (omega arith)) (or-true (eqb (getD cs i 0) c))
-
 module _ (ns ps ms qs work : List ℕ) (base : ℕ) where
   -- a child's cell is its tree's class
   pub record Told (c : ℕ) : Type 0 where

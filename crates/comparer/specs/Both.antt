@@ -1,6 +1,6 @@
 -- Two lists past number 8 in one work space: the second list's tests and both lists' classes leave the first list prepared.
 use Prim.Native.Nat.{ℕ, _+_, _*_, _≤_}
-use mathlib.Core.Path.{_≡_, _∙_}
+use mathlib.Core.Path.{_≡_}
 use mathlib.Core.List.{List}
 use native.Mathlib.Omega.{arith}
 use lib.ListN.{length}
@@ -11,7 +11,7 @@ use Rattle.columns.specs.Columns.{markColumn, shapeColumn, classColumn, withCol
 use Rattle.columns.specs.ColumnLaws.{with-length, with-other-column}
 use Rattle.verifier.specs.Left.{soundWork}
 use Rattle.verifier.specs.Held.{rows-before, sound-holds}
-use Rattle.rows.specs.Rows.{Prepared}
+use Rattle.rows.specs.Rows.{Prepared, stays-prepared}
 use Rattle.pass.specs.Prepared.{sound-prepares}
 use Rattle.classes.specs.Classes.{classAt}
 use Rattle.classes.specs.Ready.{Listed}
@@ -25,12 +25,10 @@ listed ns ps base work p = record { sound = p .sound; room = p .room; marks = p 
 -- ---- classes leave them prepared
 class-kept : (ns ps : List ℕ) (base : ℕ) (work : List ℕ) (at n : ℕ) (f : ℕ → ℕ) → Prepared ns ps base work
     → Prepared ns ps base (withColumn classColumn at n f work)
-class-kept ns ps base work at n f p = record {
-  sound = p .sound;
-  room = rw (with-length classColumn at n f work) (p .room);
-  marks = λ i h. with-other-column classColumn at n f work markColumn (base + i) (omega arith) (omega arith) (λ e. absurd (omega arith)) ∙ p .marks i h;
-  shapes = λ i h. with-other-column classColumn at n f work shapeColumn (base + i) (omega arith) (omega arith) (λ e. absurd (omega arith)) ∙ p .shapes i h;
-}
+class-kept ns ps base work at n f p =
+    stays-prepared ns ps base work (withColumn classColumn at n f work) p (with-length classColumn at n f work)
+    (λ i h. with-other-column classColumn at n f work markColumn (base + i) (omega arith) (omega arith) (λ e. absurd (omega arith)))
+    (λ i h. with-other-column classColumn at n f work shapeColumn (base + i) (omega arith) (omega arith) (λ e. absurd (omega arith)))
 
 pub classes-kept : (ns ps ms qs work : List ℕ) → BothPrepared ns ps ms qs work → BothPrepared ns ps ms qs (bothClasses ns ps ms qs work)
 unfolding bothClasses
@@ -49,12 +47,9 @@ module _ (ns ps ms qs work : List ℕ) (room : workPerNode * (nodeCount ns + nod
 
   pub both-sound : sound ms qs .number ≡ 0 → BothPrepared ns ps ms qs (soundWork ms qs (nodeCount ns) (soundWork ns ps 0 work))
   both-sound second = record {
-    first = record {
-      sound = p .sound;
-      room = rw (sound-holds ms qs (nodeCount ns) (soundWork ns ps 0 work) second-room second .size) (p .room);
-      marks = λ i h. rows-before ms qs (nodeCount ns) (soundWork ns ps 0 work) markColumn (0 + i) (omega arith) (omega arith) ∙ p .marks i h;
-      shapes = λ i h. rows-before ms qs (nodeCount ns) (soundWork ns ps 0 work) shapeColumn (0 + i) (omega arith) (omega arith) ∙ p .shapes i h;
-    };
+    first = stays-prepared ns ps 0 (soundWork ns ps 0 work) (soundWork ms qs (nodeCount ns) (soundWork ns ps 0 work)) p (sound-holds ms qs (nodeCount ns) (soundWork ns ps 0 work) second-room second .size)
+        (λ i h. rows-before ms qs (nodeCount ns) (soundWork ns ps 0 work) markColumn (0 + i) (omega arith) (omega arith))
+        (λ i h. rows-before ms qs (nodeCount ns) (soundWork ns ps 0 work) shapeColumn (0 + i) (omega arith) (omega arith));
     second = sound-prepares ms qs (nodeCount ns) (soundWork ns ps 0 work) second-room second;
   }
     where

@@ -1,9 +1,9 @@
 -- "the variables below the first root", lowest number first: what the nodes of a list past number 8 tell of them, and what
 -- callers may rely on.
-use Prim.Native.Nat.{ℕ, zero, suc, _+_, _≤_, _<_}
-use mathlib.Core.Path.{_≡_, refl, sym, ap, _∙_}
-use mathlib.Core.List.{List, [], _∷_, append-nil}
-use mathlib.Core.Bool.{Bool, true, false, cond, _&&_, or-true}
+use Prim.Native.Nat.{ℕ, suc, _+_, _≤_, _<_}
+use mathlib.Core.Path.{_≡_, sym, ap, _∙_}
+use mathlib.Core.List.{List, append-nil}
+use mathlib.Core.Bool.{Bool, true, false, cond, _&&_}
 use native.Mathlib.Omega.{arith}
 use native.Mathlib.Numerals.{add-one}
 use lib.ListN.{length, getD, take, set}
@@ -15,11 +15,12 @@ use Rattle.meaning.specs.Rules.Kinds.{variableWord}
 use Rattle.meaning.specs.Rules.Trees.{Tree, nodeCount, kindAt, firstAt, datumAt, rootOf}
 use Rattle.meaning.specs.Rules.Layout.{childrenBelow}
 use Rattle.meaning.specs.Rules.Reach.{markOf, reachable}
-use Rattle.meaning.specs.Rules.Assignments.{occurs, select, inputs, isIn}
+use Rattle.meaning.specs.Rules.Assignments.{occurs, select, inputs}
 use Rattle.meaning.specs.Claims.Column.{Sound}
 use Rattle.meaning.specs.Laws.BoolLaws.{true-false, and-left, and-right, and-both, not-true}
 use Rattle.meaning.specs.Laws.InputLaws.{IsInput, inputs-reachable}
 use Rattle.meaning.specs.Laws.AssignmentLaws.{in-select}
+use Rattle.lists.specs.Scan.{some-at}
 use Rattle.lists.specs.Laid.{children-below}
 
 -- node i is the variable v, and the root reaches it
@@ -100,15 +101,10 @@ count-is t vs r h e = sym (ap length e) ∙ length-take-le r vs h
 abbrev pub AllBelow : ℕ → List ℕ → Type 0
 AllBelow n vs = (j : ℕ) → j < length vs → getD vs j 0 < n
 
-is-member : (vs : List ℕ) (j : ℕ) → j < length vs → isIn (getD vs j 0) vs ≡ true
-is-member [] j h = absurd (omega arith)
-is-member (x ∷ xs) zero h = rw (eq-eqb x x refl)
-is-member (x ∷ xs) (suc j) h = rw (is-member xs j (omega arith)) (or-true (eqb (getD xs j 0) x))
-
 selected-below : (p : ℕ → Bool) (n : ℕ) → AllBelow n (select p n)
 selected-below p n j h =
     let v : ℕ = getD (select p n) j 0 in
-    ltb-true v n (and-left (ltb v n) (p v) (sym (in-select p n v) ∙ is-member (select p n) j h))
+    ltb-true v n (and-left (ltb v n) (p v) (sym (in-select p n v) ∙ some-at (select p n) j h))
 
 all-below : (t : Tree) → AllBelow variableCount (inputs t)
 unfolding inputs

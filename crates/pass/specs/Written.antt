@@ -11,7 +11,7 @@ use Rattle.meaning.specs.Rules.Answers.{Assignment}
 use Rattle.meaning.specs.Rules.Pairs.{stateAt, valueAt}
 use Rattle.columns.specs.Columns.{place, cell, markColumn, shapeColumn, stateColumn, valueColumn, withColumn}
 use Rattle.columns.specs.ColumnLaws.{with-next, with-none, with-length, with-elsewhere, with-other-column, with-row-before, with-column, with-beside}
-use Rattle.rows.specs.Rows.{Prepared, Filled}
+use Rattle.rows.specs.Rows.{Prepared, stays-prepared, Filled}
 
 module _ (ns ps : List ℕ) (α : Assignment) (base : ℕ) where
   -- the pairs of the first m nodes, written
@@ -62,15 +62,16 @@ module _ (ns ps : List ℕ) (α : Assignment) (base : ℕ) where
       with-row-before valueColumn base m (valueAt ns ps α) (withColumn stateColumn base m (stateAt ns ps α) work) q row (omega arith) h l
       ∙ with-row-before stateColumn base m (stateAt ns ps α) work q row (omega arith) h l
 
-  -- ---- so the list stays prepared, for the next assignment too, and the pairs are there
+  -- ---- so every list stays prepared, this one for the next assignment too, and the pairs are there
+  pub pairs-beside : (m : ℕ) (work ms qs : List ℕ) (at : ℕ) → Prepared ms qs at work → Prepared ms qs at (withPairsTo m work)
+  pairs-beside m work ms qs at p =
+      stays-prepared ms qs at work (withPairsTo m work) p (pairs-length m work)
+      (λ i h. pairs-other-column m work markColumn (at + i) (omega arith) (λ e. absurd (omega arith)) (λ e. absurd (omega arith)))
+      (λ i h. pairs-other-column m work shapeColumn (at + i) (omega arith) (λ e. absurd (omega arith)) (λ e. absurd (omega arith)))
+
   module _ (work : List ℕ) (p : Prepared ns ps base work) where
     pub still-prepared : (m : ℕ) → Prepared ns ps base (withPairsTo m work)
-    still-prepared m = record {
-      sound = p .sound;
-      room = rw (pairs-length m work) (p .room);
-      marks = λ i l. pairs-other-column m work markColumn (base + i) (omega arith) (λ e. absurd (omega arith)) (λ e. absurd (omega arith)) ∙ p .marks i l;
-      shapes = λ i l. pairs-other-column m work shapeColumn (base + i) (omega arith) (λ e. absurd (omega arith)) (λ e. absurd (omega arith)) ∙ p .shapes i l;
-    }
+    still-prepared m = pairs-beside m work ns ps base p
 
     pub filled-to : (m : ℕ) → m ≤ nodeCount ns → Filled ns ps α base (withPairsTo m work) m
     filled-to m l =

@@ -34,6 +34,17 @@ pub record Prepared (ns ps : List ℕ) (base : ℕ) (work : List ℕ) : Type 0 w
   pub marks : Column work markColumn base (nodeCount ns) (markOf ns ps)
   pub shapes : Column work shapeColumn base (nodeCount ns) (shapeAt ns ps)
 
+-- it stays so whatever is written, as long as its marks and shapes stay
+pub stays-prepared : (ns ps : List ℕ) (base : ℕ) (work left : List ℕ) → Prepared ns ps base work → length left ≡ length work
+    → ((i : ℕ) → i < nodeCount ns → cell left markColumn (base + i) ≡ cell work markColumn (base + i))
+    → ((i : ℕ) → i < nodeCount ns → cell left shapeColumn (base + i) ≡ cell work shapeColumn (base + i)) → Prepared ns ps base left
+stays-prepared ns ps base work left p size marks shapes = record {
+  sound = p .sound;
+  room = rw size (p .room);
+  marks = λ i h. marks i h ∙ p .marks i h;
+  shapes = λ i h. shapes i h ∙ p .shapes i h;
+}
+
 -- and with the pairs of the first m nodes in theirs
 pub record Filled (ns ps : List ℕ) (α : Assignment) (base : ℕ) (work : List ℕ) (m : ℕ) : Type 0 where
   pub ready : Prepared ns ps base work

@@ -7,9 +7,9 @@ use lib.ListN.{length}
 use Rattle.meaning.specs.Rules.Limits.{mostInputs}
 use Rattle.meaning.specs.Rules.Trees.{nodeCount, rootOf}
 use Rattle.meaning.specs.Rules.Answers.{Assignment, answer}
-use Rattle.columns.specs.Columns.{markColumn, shapeColumn, stateColumn, valueColumn}
+use Rattle.columns.specs.Columns.{stateColumn, valueColumn}
 use Rattle.rows.specs.Rows.{Prepared, Filled}
-use Rattle.pass.specs.Written.{withPairs, passed, pairs-length, pairs-other-column, pairs-row-before}
+use Rattle.pass.specs.Written.{withPairs, passed, pairs-beside, pairs-row-before}
 use Rattle.inputs.specs.Inputs.{AllBelow}
 use Rattle.inputs.specs.Driving.{OthersUndriven}
 use Rattle.trials.specs.declared.Roots.{Roots}
@@ -29,24 +29,12 @@ pub record BothPrepared (ns ps ms qs work : List ℕ) : Type 0 where
   pub first : Prepared ns ps 0 work
   pub second : Prepared ms qs (nodeCount ns) work
 
--- ---- a pass leaves what any list has in the columns MARK and SHAPE, and all rows before its own
+-- ---- a pass leaves all rows before its own
 module _ (ms qs : List ℕ) (α : Assignment) (base : ℕ) (work : List ℕ) where
-  prepared-beside : (ns ps : List ℕ) (at : ℕ) → Prepared ns ps at work → Prepared ns ps at (withPairs ms qs α base work)
-  prepared-beside ns ps at p = record {
-    sound = p .sound;
-    room = rw (pairs-length ms qs α base (nodeCount ms) work) (p .room);
-    marks = λ i l.
-        pairs-other-column ms qs α base (nodeCount ms) work markColumn (at + i) (omega arith) (λ e. absurd (omega arith)) (λ e. absurd (omega arith))
-        ∙ p .marks i l;
-    shapes = λ i l.
-        pairs-other-column ms qs α base (nodeCount ms) work shapeColumn (at + i) (omega arith) (λ e. absurd (omega arith)) (λ e. absurd (omega arith))
-        ∙ p .shapes i l;
-  }
-
   filled-before : (ns ps : List ℕ) (β : Assignment) → Filled ns ps β 0 work (nodeCount ns) → nodeCount ns ≤ base
       → Filled ns ps β 0 (withPairs ms qs α base work) (nodeCount ns)
   filled-before ns ps β f before = record {
-    ready = prepared-beside ns ps 0 (f .ready);
+    ready = pairs-beside ms qs α base (nodeCount ms) work ns ps 0 (f .ready);
     states = λ i l. pairs-row-before ms qs α base (nodeCount ms) work stateColumn (0 + i) (omega arith) (omega arith) ∙ f .states i l;
     values = λ i l. pairs-row-before ms qs α base (nodeCount ms) work valueColumn (0 + i) (omega arith) (omega arith) ∙ f .values i l;
   }
@@ -63,7 +51,7 @@ module _ (ns ps ms qs : List ℕ) (α : Assignment) (work : List ℕ) where
   module _ (p : BothPrepared ns ps ms qs work) where
     pub second-prepared : Prepared ms qs (nodeCount ns) firstWork
     unfolding firstWork
-    second-prepared = prepared-beside ns ps α 0 work ms qs (nodeCount ns) (p .second)
+    second-prepared = pairs-beside ns ps α 0 (nodeCount ns) work ms qs (nodeCount ns) (p .second)
 
     pub first-filled : Filled ns ps α 0 triedWork (nodeCount ns)
     unfolding triedWork firstWork
