@@ -9,7 +9,8 @@ use trials::answers_at;
 ghost use mathlib.Core.Path.{_≡_};
 ghost use Rattle.meaning.specs.Rules.Trees.{rootOf};
 ghost use Rattle.meaning.specs.Rules.Assignments.{inputs};
-ghost use Rattle.trials.specs.Trial.{BothPrepared, Drivable};
+ghost use Rattle.inputs.specs.Driving.{Drivable};
+ghost use Rattle.trials.specs.Trial.{BothPrepared};
 ghost use Rattle.comparer.specs.Searched.{searched};
 
 // The variables are those below the first root, at most 30: "30 inputs run to the end".

@@ -1,6 +1,6 @@
 -- "bit j of assignment i drives the j-th smallest variable", in bytes: what a loop from the last variable down has written,
 -- and that it is `drive` of meaning's Rules/Assignments where the other bytes are undriven.
-use Prim.Native.Nat.{ℕ, suc, _/_, _%_, _^_, _<_}
+use Prim.Native.Nat.{ℕ, suc, _/_, _%_, _^_, _≤_, _<_}
 use mathlib.Core.Path.{_≡_, refl, ap, fun-ext, _∙_}
 use mathlib.Core.List.{List, [], _∷_}
 use mathlib.Core.Bool.{Bool, true, false, cond}
@@ -11,14 +11,22 @@ use lib.Dec.{eqb}
 use lib.Seq.{drop-cons, drop-length, getD-set-same, getD-set-other}
 use lib.Pow.{shr-shr}
 use borrow.Author.Tests.{eqb-true, eqb-false}
+use Rattle.meaning.specs.Rules.Limits.{mostInputs}
 use Rattle.meaning.specs.Rules.Words.{bitAt}
 use Rattle.meaning.specs.Rules.Answers.{Assignment, undrivenByte}
 use Rattle.meaning.specs.Rules.Assignments.{given, drive, isIn}
 use Rattle.meaning.specs.Laws.AssignmentLaws.{drive-other}
+use Rattle.inputs.specs.Inputs.{AllBelow}
 
 -- "the others are undriven"
 abbrev pub OthersUndriven : List ℕ → List ℕ → Type 0
 OthersUndriven vs bytes = (v : ℕ) → isIn v vs ≡ false → given bytes v ≡ undrivenByte
+
+-- bytes that the variables can be driven in
+pub record Drivable (vs bytes : List ℕ) : Type 0 where
+  pub few : length vs ≤ mostInputs
+  pub within : AllBelow (length bytes) vs
+  pub others : OthersUndriven vs bytes
 
 -- `drive` written over an assignment
 abbrev pub driveOver : Assignment → List ℕ → ℕ → Assignment
@@ -66,3 +74,8 @@ module _ (old : List ℕ) (vs : List ℕ) (index : ℕ) where
 -- ---- for the next index
 pub still-undriven : (vs bytes : List ℕ) (index : ℕ) → given bytes ≡ drive vs index → OthersUndriven vs bytes
 still-undriven vs bytes index e v other = ap (λ (α : Assignment). α v) e ∙ drive-other vs index v other
+
+pub still-drivable : (vs bytes left : List ℕ) (index : ℕ) → Drivable vs bytes → length left ≡ length bytes → given left ≡ drive vs index
+    → Drivable vs left
+still-drivable vs bytes left index d size e =
+    record { few = d .few; within = rw size (d .within); others = still-undriven vs left index e }

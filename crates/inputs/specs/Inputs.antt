@@ -101,7 +101,7 @@ count-is t vs r h e = sym (ap length e) ∙ length-take-le r vs h
 abbrev pub AllBelow : ℕ → List ℕ → Type 0
 AllBelow n vs = (j : ℕ) → j < length vs → getD vs j 0 < n
 
-selected-below : (p : ℕ → Bool) (n : ℕ) → AllBelow n (select p n)
+pub selected-below : (p : ℕ → Bool) (n : ℕ) → AllBelow n (select p n)
 selected-below p n j h =
     let v : ℕ = getD (select p n) j 0 in
     ltb-true v n (and-left (ltb v n) (p v) (sym (in-select p n v) ∙ some-at (select p n) j h))

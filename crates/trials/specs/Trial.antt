@@ -1,28 +1,18 @@
 -- One assignment tried on two lists in one work space, the second list's rows behind the first's.
-use Prim.Native.Nat.{ℕ, _+_, _≤_}
+use Prim.Native.Nat.{ℕ, _≤_, _+_}
 use mathlib.Core.Path.{_∙_}
 use mathlib.Core.List.{List}
 use native.Mathlib.Omega.{arith}
-use lib.ListN.{length}
-use Rattle.meaning.specs.Rules.Limits.{mostInputs}
 use Rattle.meaning.specs.Rules.Trees.{nodeCount, rootOf}
 use Rattle.meaning.specs.Rules.Answers.{Assignment, answer}
 use Rattle.columns.specs.Columns.{stateColumn, valueColumn}
 use Rattle.rows.specs.Rows.{Prepared, Filled}
 use Rattle.pass.specs.Written.{withPairs, passed, pairs-beside, pairs-row-before}
-use Rattle.inputs.specs.Inputs.{AllBelow}
-use Rattle.inputs.specs.Driving.{OthersUndriven}
 use Rattle.trials.specs.declared.Roots.{Roots}
 
 -- both roots' answers under an assignment
 abbrev pub rootsUnder : List ℕ → List ℕ → List ℕ → List ℕ → Assignment → Roots
 rootsUnder ns ps ms qs α = record { first = answer α (rootOf ns ps); second = answer α (rootOf ms qs) }
-
--- bytes that the variables can be driven in
-pub record Drivable (vs bytes : List ℕ) : Type 0 where
-  pub few : length vs ≤ mostInputs
-  pub within : AllBelow (length bytes) vs
-  pub others : OthersUndriven vs bytes
 
 -- both lists accepted, with their marks and shapes
 pub record BothPrepared (ns ps ms qs work : List ℕ) : Type 0 where

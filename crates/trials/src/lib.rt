@@ -10,7 +10,8 @@ use pass::pass;
 use rows::answer_at;
 ghost use mathlib.Core.Path.{_≡_};
 ghost use Rattle.meaning.specs.Rules.Assignments as assignments;
-ghost use Rattle.trials.specs.Trial.{BothPrepared, Drivable, rootsUnder, triedWork};
+ghost use Rattle.inputs.specs.Driving.{Drivable};
+ghost use Rattle.trials.specs.Trial.{BothPrepared, rootsUnder, triedWork};
 
 // The answers of both roots
 pub struct Roots {

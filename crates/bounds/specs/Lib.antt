@@ -1,0 +1,2 @@
+-- the search for a variable at n or above
+pub mod Bounds

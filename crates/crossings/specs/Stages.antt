@@ -1,0 +1,63 @@
+-- Stage after stage: the assignments of the first s variables come before all others, so a crossing among them is the lowest, and
+-- where there is none the next stage has more variables.
+use Prim.Native.Nat.{ℕ, zero, _^_, _≤_, _<_}
+use mathlib.Core.Path.{_≡_, refl, sym, ap, _∙_}
+use mathlib.Core.Bool.{Bool, true, false, cond, not}
+use native.Mathlib.Omega.{arith}
+use lib.Pow.{pow-mono}
+use Rattle.meaning.specs.Rules.Words.{bitAt}
+use Rattle.meaning.specs.Rules.Trees.{Tree}
+use Rattle.meaning.specs.Rules.Answers.{Assignment, answer}
+use Rattle.meaning.specs.Rules.Search.{lowest}
+use Rattle.meaning.specs.Rules.Comparison.{sameAnswer}
+use Rattle.meaning.specs.Rules.Separation.{isMarked, crosses, crossingIndex}
+use Rattle.meaning.specs.Claims.Terms.{asRun}
+use Rattle.meaning.specs.Laws.SearchLaws.{lowest-is, lowest-only}
+use Rattle.meaning.specs.Laws.AssignmentLaws.{sameAnswer-refl}
+use Rattle.input_bits.specs.Seen.{bit-none}
+use Rattle.crossings.specs.Driven.{cleared-is}
+
+module _ (t : Tree) (n run : ℕ) where
+  -- no assignment of the first s variables crosses
+  abbrev pub NoneOf : ℕ → Type 0
+  NoneOf s = lowest (crosses t n run) (2 ^ s) ≡ 2 ^ s
+
+  -- assignment 0 is its own cleared self
+  pub none-of-none : run < 2 ^ n → NoneOf 0
+  none-of-none marks = lowest-only (crosses t n run) (2 ^ 0) (2 ^ 0) (record {
+    after = omega arith;
+    within = omega arith;
+    passes = λ l. absurd (omega arith);
+    before = λ j a b. let e : j ≡ 0 = omega (arith, b) in rw e own;
+  })
+    where
+      zeros : (b : Bool) → cond b 0 0 ≡ zero
+      zeros true = refl
+      zeros false = refl
+
+      clear : (v : ℕ) → v < n → bitAt 0 v ≡ cond (isMarked run v) 0 (bitAt 0 v)
+      clear v h = bit-none v ∙ sym (ap (λ (b : ℕ). cond (isMarked run v) 0 b) (bit-none v) ∙ zeros (isMarked run v))
+
+      own : crosses t n run 0 ≡ false
+      own =
+          ap (λ (α : Assignment). not (sameAnswer (asRun t n run 0) (answer α t))) (cleared-is n run marks 0 0 clear)
+          ∙ ap not (sameAnswer-refl (asRun t n run 0))
+
+  module _ (s : ℕ) (within : s ≤ n) where
+    pub stage-found : (i : ℕ) → i ≡ lowest (crosses t n run) (2 ^ s) → i < 2 ^ s → i ≡ crossingIndex t n run
+    unfolding crossingIndex
+    stage-found i e h =
+        let found = lowest-is (crosses t n run) (2 ^ s) in
+        sym (lowest-only (crosses t n run) (2 ^ n) i (record {
+          after = omega arith;
+          within = omega (arith, h, pow-mono within);
+          passes = λ l. rw e (found .passes (omega (arith, e, h)));
+          before = λ j a b. found .before j a (omega (arith, b, e));
+        }))
+
+    pub stage-none : (i : ℕ) → i ≡ lowest (crosses t n run) (2 ^ s) → (i < 2 ^ s → ⊥) → NoneOf s
+    stage-none i e h = omega (arith, e, h, lowest-is (crosses t n run) (2 ^ s) .within)
+
+  pub none-crosses : (s : ℕ) → s ≡ n → NoneOf s → 2 ^ n ≡ crossingIndex t n run
+  unfolding crossingIndex
+  none-crosses s e none = sym (ap (λ (k : ℕ). lowest (crosses t n run) (2 ^ k)) (sym e) ∙ none ∙ ap (λ (k : ℕ). 2 ^ k) e)

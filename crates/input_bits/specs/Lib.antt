@@ -1,0 +1,2 @@
+-- the variables seen so far
+pub mod Seen
