@@ -88,8 +88,8 @@ fn verdict_of(first: Answer, second: Answer) -> Check
     Check::NotEquiv
 }
 
-// "an answer width 0 and value 0"
-fn blank() -> Answer
+// "an answer width 0 and value 0": what a refusal and a zero field show.
+pub fn blank() -> Answer
     ensures { λ r. ⌜ r ≡ answers.blank ⌝ }
 {
     Answer::Value { width: 0, value: 0 }

@@ -4,13 +4,13 @@
 // their fields.
 use answer_words::same;
 use answer_words::words_of;
+use comparisons::blank;
 use meaning::Answer;
 use meaning::Judgement;
 use meaning::Refusal;
 use meaning::Separation;
 use meaning::numbers::DONE;
 ghost use mathlib.Core.Path.{_≡_};
-ghost use Rattle.meaning.specs.Rules.Answers as answers;
 ghost use Rattle.meaning.specs.Rules.Comparison.{sameAnswer};
 ghost use Rattle.meaning.specs.Rules.Separation as rule;
 
@@ -64,11 +64,4 @@ pub fn refused(refusal: Refusal) -> Separation
         run: blank(),
         cleared: blank(),
     }
-}
-
-// "an answer width 0 and value 0"
-fn blank() -> Answer
-    ensures { λ r. ⌜ r ≡ answers.blank ⌝ }
-{
-    Answer::Value { width: 0, value: 0 }
 }

@@ -6,8 +6,7 @@
 use inputs::driving::drive;
 use meaning::Answer;
 use nodes::node_count;
-use pass::pass;
-use rows::answer_at;
+use roots::root_under;
 ghost use mathlib.Core.Path.{_≡_};
 ghost use Rattle.meaning.specs.Rules.Assignments as assignments;
 ghost use Rattle.inputs.specs.Driving.{Drivable};
@@ -37,12 +36,8 @@ pub fn answers_at(
     ensures { λ _. ⌜ assignments.given (now (bytes .exit)) ≡ assignments.drive (now (variables .entry)) index ⌝ }
 {
     drive(variables, index, bytes);
-    let base = node_count(nodes);
-    let end = base + node_count(second_nodes);
-    pass(nodes, pool, bytes, 0, work);
-    pass(second_nodes, second_pool, bytes, base, work);
     Roots {
-        first: answer_at(work, base - 1),
-        second: answer_at(work, end - 1),
+        first: root_under(nodes, pool, bytes, 0, work),
+        second: root_under(second_nodes, second_pool, bytes, node_count(nodes), work),
     }
 }

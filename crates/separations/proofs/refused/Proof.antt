@@ -4,7 +4,7 @@ use Rattle.separations.proofs.refused.Statement.{statement}
 use Rattle.separations.proofs.refused.Tie as tie
 use Rattle.separations.proofs.refused.Reads as reads
 use Rattle.separations.proofs.refused.Lts as lts
-use Rattle.separations.proofs.blank.Reads as blank-reads
+use Rattle.comparisons.proofs.blank.Reads as blank-reads
 
 blank-requires : tie.Need-blank-requires
 blank-requires c κs = search needs
