@@ -18,7 +18,6 @@ word that is cleared is told from one that is left alone. The same cases come ou
 drawn is drawn from a fixed seed.
 """
 import itertools
-import os
 import random
 import sys
 from collections import Counter
@@ -31,9 +30,9 @@ import model
 from comparisons import FAILS, NOT_EVALUABLE, asked, case, each_tree_once, lines
 from lister import evaluable_list, word_changed, word_dropped
 from networks import FAILURES
+from recorded import index_range, made, shown, shown_indices, written
 
-HERE = os.path.dirname(os.path.abspath(__file__))
-CRATE = os.path.join(HERE, "..", "crates", "replay_compare")
+CRATE = "replay_compare"
 SEED = 20250308
 ALIKE_PAIRS = 260
 OTHER_PAIRS = 110
@@ -114,25 +113,6 @@ def meaning_pairs(rng):
 DRAWN = (compare_values.drawn_tables, alike_pairs, other_pairs, meaning_pairs)
 
 
-def made(makers, rng):
-    """How many cases each of these adds."""
-    counts = {}
-    for make in makers:
-        before = len(lines)
-        make(*[rng] * make.__code__.co_argcount)
-        counts[make.__name__] = len(lines) - before
-    return counts
-
-
-def index_range(index):
-    """Indices one by one up to 7, then by their length."""
-    return f"{index}" if index < 8 else f"{2 ** (index.bit_length() - 1)}.."
-
-
-def shown(title, counts, key=None):
-    print(title + ": " + ", ".join(f"{name} {counts[name]}" for name in sorted(counts, key=key)), file=sys.stderr)
-
-
 def same_tree(line):
     """Whether the two lists of a line stand for one tree."""
     words1, entries1, words2, entries2 = line[:4]
@@ -157,7 +137,7 @@ def tally():
     shown("numbers", numbers)
     shown("verdicts", verdicts)
     print(f"Equiv: {equal} of equal trees, {verdicts['Equiv'] - equal} by every assignment", file=sys.stderr)
-    shown("indices that decide", indices, key=lambda text: int(text.rstrip(".")))
+    shown_indices("indices that decide", indices)
     shown("states of first and second", states)
     shown("widths that differ or whose values do", widths)
     print(f"NotEquiv: {unlike} by the widths, {len(differing) - unlike} by the values", file=sys.stderr)
@@ -168,26 +148,16 @@ def tally():
     assert len(lines) >= FEWEST_CASES
 
 
-def write(name, text):
-    os.makedirs(CRATE, exist_ok=True)
-    with open(os.path.join(CRATE, name), "w", encoding="ascii", newline="\n") as out:
-        out.write(text)
-
-
 def main():
     # the model follows a list of 4,096 nodes one below the other by as many calls
     sys.setrecursionlimit(20000)
     rng = random.Random(SEED)
     by_hand = compare_values.BY_HAND + compare_inputs.BY_HAND + compare_refusals.BY_HAND
     for title, makers in (("by hand", by_hand), ("drawn", DRAWN)):
-        counts = made(makers, rng)
+        counts = made(makers, rng, lines)
         shown(f"{sum(counts.values())} {title}", counts, key=list(counts).index)
     tally()
-    text = "".join(" ".join(map(str, line)) + "\n" for line in lines)
-    print(f"{len(text)} bytes", file=sys.stderr)
-    assert len(text) <= LARGEST_INPUT, len(text)
-    write("stdin", text)
-    write("stdout", f"{len(lines)} cases, 0 differ\n")
+    written(CRATE, lines, LARGEST_INPUT)
 
 
 if __name__ == "__main__":
