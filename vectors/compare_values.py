@@ -52,6 +52,15 @@ def digits_of(program, count, operands):
     return found
 
 
+def program_of(digits, order):
+    """The program of a Lut over variables in this order that has these bits under 0, 1, .."""
+    program = 0
+    for index, digit in enumerate(digits):
+        row = "".join(str(index >> number & 1) for number in order)
+        program += int(digit) << int(row, 2)
+    return program
+
+
 def two_operand_luts():
     """All 16 programs against all 16, with the operands in one order and in the other."""
     for first, second in itertools.product(range(16), repeat=2):
@@ -73,10 +82,7 @@ def wide_luts(rng):
             program = rng.randrange(2 ** 2 ** count)
             orders = [rng.sample(range(count), count) for _ in range(2)]
             # the same table over operands in another order, and the same but one digit
-            permuted = 0
-            for index, digit in enumerate(digits_of(program, count, orders[0])):
-                row = "".join(str(index >> number & 1) for number in orders[1])
-                permuted += int(digit) << int(row, 2)
+            permuted = program_of(digits_of(program, count, orders[0]), orders[1])
             whole = lut(program, *variables(orders[0]))
             expect(EQUIV, whole, lut(permuted, *variables(orders[1])))
             other = permuted ^ 2 ** rng.randrange(2 ** count)

@@ -182,7 +182,7 @@ def thirty_variables(rng):
 
 def few_of_thirty(rng):
     """n = 30 and few variables below the root: separate, or a crossing among the highest assignments."""
-    for numbers in ((29,), (28, 29), (0, 29), (14, 15, 29), (27, 28, 29), (0, 1, 2, 3, 4, 5, 6, 29), tuple(range(22, 30))):
+    for numbers in ((29,), (28, 29), (0, 29), (14, 15, 29), (27, 28, 29), (*range(7), 29), tuple(range(22, 30))):
         names = variables(numbers)
         every = joined("And", names)
         last = sum(2 ** number for number in numbers)
@@ -258,7 +258,7 @@ def long_chains():
 
 
 def every_pair(rng):
-    """n and the marks of each size, over a list whose crossing is known for each marking: a Mux between two minterms."""
+    """n and the marks of each size, over a list whose crossing is known for each marking: a Mux of two minterms."""
     for n, _ in itertools.product(range(1, 9), range(6)):
         one, two = rng.randrange(2 ** n), rng.randrange(2 ** n)
         marks = rng.randrange(2 ** n)

@@ -221,6 +221,8 @@ def the_limits():
     expect(refused(OVER_LIMIT), over, 0, 0, work=WORK_ROOM)
     expect(refused(OVER_LIMIT), over, 31, 1, work=0)
     expect(refused(NOT_ALIGNED), of(*blank_nodes(model.MOST_NODES + 1, 2)), 31, 1, work=0)
+    expect(refused(NOT_ALIGNED), of(*blank_nodes(model.MOST_NODES + 1, 1)), 0, 0, work=WORK_ROOM)
+    expect(refused(NOT_ALIGNED), of(3, 0, 0, 0, pool=[0] * (model.MOST_POOL + 1)), 1, 1, work=0)
     expect(SEPARATE, under, 1, 1)
     expect(BEYOND, under, 1, 2)
     expect(refused(LITTLE_WORK), under, 1, 2, work=asked(under) - 1)

@@ -1,10 +1,10 @@
-"""Cases of the separation that are about answers: the examples, tables under every marking, which crossing is the lowest,
-failures, widths, every kind at the root (document 01, "Comparison and separation", "Answers of a node", "Panel bench
-examples").
+"""Cases of the separation that are about answers: the examples, tables under every marking, which crossing is the
+lowest, failures, widths, every kind at the root (document 01, "Comparison and separation", "Answers of a node", "Panel
+bench examples").
 """
 import itertools
 
-from compare_values import GATE_DIGITS, digits_of, listed_mux, table_tree
+from compare_values import GATE_DIGITS, digits_of, listed_mux, program_of, table_tree
 from comparisons import FIRST_STATES, bit, fails, told, value
 from networks import ARG, DONT_CARE, FAILURES, REGISTER
 from separations import SEPARATE, crossing, expect, expect_ways, scanned
@@ -59,7 +59,7 @@ def two_operand_gates(rng):
 
 
 def wide_luts(rng):
-    """Programs over three to six operands in any order; sparse ones, so that the crossing is not always an early one."""
+    """Programs over three to six operands in any order; half of them with one row, so that crossings come late too."""
     for count in (3, 4, 5, 6):
         for at in range(24):
             program = rng.randrange(2 ** 2 ** count) if at % 2 else 2 ** rng.randrange(2 ** count)
@@ -67,15 +67,6 @@ def wide_luts(rng):
             marks = rng.randrange(2 ** count)
             states = digits_of(program, count, order)
             expect(scanned(states, marks), lut(program, *variables(order)), count + at % 3, marks)
-
-
-def program_of(digits, order):
-    """The program of a Lut over variables in this order that has these bits under 0, 1, .."""
-    program = 0
-    for index, digit in enumerate(digits):
-        row = "".join(str(index >> number & 1) for number in order)
-        program += int(digit) << int(row, 2)
-    return program
 
 
 def idle_operands(rng):
@@ -97,7 +88,7 @@ def idle_operands(rng):
 
 def spikes():
     """A table with one odd place, at each place under each marking: with a run bit in it the crossing is there, and
-    answers oddly; without one it is at the place with the lowest run bit added, and the odd answer is the cleared one."""
+    answers oddly; without one the lowest run bit is added to it, and the odd answer is the cleared one."""
     for count in (1, 2, 3):
         for place, marks in itertools.product(range(2 ** count), range(2 ** count)):
             for base, odd in (("0", "1"), ("1", "d"), ("r", "0"), ("a", "r")):
@@ -207,7 +198,7 @@ def absorbed_failures(rng):
 
 
 def failing_operands(rng):
-    """A Lut with an operand that fails, always or where a marked variable is 1; its other operands make no difference."""
+    """A Lut with an operand that fails, always or where a marked variable is 1; no other operand makes a difference."""
     for letter, k in itertools.product("dra", (1, 2, 3, 6)):
         for place in range(k):
             operands = variables(range(k))
