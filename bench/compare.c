@@ -5,59 +5,18 @@
  * many words of work space are lent; then the first list's node words and pool entries, then the second's.
  * Standard output: the ten words of the answer and the nanoseconds that the call took, on one line.
  */
-#define _POSIX_C_SOURCE 199309L
-#include <inttypes.h>
-#include <stdint.h>
-#include <stdio.h>
-#include <stdlib.h>
-#include <time.h>
-
 #include "panel.h"
+#include "timed.h"
 
-enum { LISTS = 4, SIZES = 5, WORK = 4, ANSWER = 10 };
+#include <stdlib.h>
 
-static uint64_t next_word(void)
-{
-    uint64_t word;
-    if (scanf("%" SCNu64, &word) != 1) {
-        fprintf(stderr, "a word is missing\n");
-        exit(2);
-    }
-    return word;
-}
-
-/* Room for so many elements, and never none: a pointer that is lent is not null. */
-static void *room(uint64_t count, size_t size)
-{
-    void *place = calloc(count + 1, size);
-    if (place == NULL) {
-        fprintf(stderr, "no memory\n");
-        exit(2);
-    }
-    return place;
-}
-
-static uint32_t *next_words(uint64_t count)
-{
-    uint32_t *words = room(count, sizeof *words);
-    for (uint64_t at = 0; at < count; at++) {
-        words[at] = (uint32_t)next_word();
-    }
-    return words;
-}
-
-static int64_t nanoseconds(void)
-{
-    struct timespec now;
-    clock_gettime(CLOCK_MONOTONIC, &now);
-    return (int64_t)now.tv_sec * 1000000000 + now.tv_nsec;
-}
+enum { LISTS = 4, SIZES = 5, WORK = 4 };
 
 int main(void)
 {
     uint64_t sizes[SIZES];
     uint32_t *lists[LISTS];
-    uint64_t answer[ANSWER];
+    uint64_t answer[PANEL_COMPARE_WORDS];
     for (int at = 0; at < SIZES; at++) {
         sizes[at] = next_word();
     }
@@ -68,11 +27,7 @@ int main(void)
     int64_t before = nanoseconds();
     panel_compare(lists[0], sizes[0], lists[1], sizes[1], lists[2], sizes[2], lists[3], sizes[3], work, sizes[WORK],
                   answer);
-    int64_t after = nanoseconds();
-    for (int at = 0; at < ANSWER; at++) {
-        printf("%" PRIu64 " ", answer[at]);
-    }
-    printf("%" PRId64 "\n", after - before);
+    tell(answer, PANEL_COMPARE_WORDS, nanoseconds() - before);
     for (int at = 0; at < LISTS; at++) {
         free(lists[at]);
     }

@@ -22,7 +22,6 @@ from repeat import HERE, ROUNDS, processor
 import model
 from lister import KIND, Lister
 
-SOURCE = os.path.join(HERE, "compare.c")
 HEADERS = os.path.join(HERE, "..", "include")
 LIBRARY = os.path.join(HERE, "..", "target", "staticlib", "libpanel_c.a")
 ORACLE = os.path.join(HERE, "..", "oracle")
@@ -138,21 +137,25 @@ def work_words(*lists):
                for nodes, pool in lists)
 
 
-def built(folder):
-    """The program that makes one call."""
-    program = os.path.join(folder, "compare")
-    subprocess.run(["cc", "-O2", "-std=c99", "-Wall", "-Wextra", "-I", HEADERS, SOURCE, LIBRARY, "-o", program],
+def built(folder, name):
+    """The program of this name, which makes one call."""
+    program = os.path.join(folder, name)
+    sources = [os.path.join(HERE, source) for source in (name + ".c", "timed.c")]
+    subprocess.run(["cc", "-O2", "-std=c99", "-Wall", "-Wextra", "-I", HEADERS, *sources, LIBRARY, "-o", program],
                    check=True)
     return program
 
 
-def call(program, first, second):
-    """The answer words, and the nanoseconds that the call took."""
-    sizes = [*map(len, first), *map(len, second), work_words(first, second)]
-    words = [*sizes, *first[0], *first[1], *second[0], *second[1]]
+def timed(program, words):
+    """The answer words of the call that these words say, and the nanoseconds that it took."""
     done = subprocess.run([program], input=" ".join(map(str, words)).encode(), capture_output=True, check=True)
     *answer, took = map(int, done.stdout.split())
     return answer, took
+
+
+def call(program, first, second):
+    sizes = [*map(len, first), *map(len, second), work_words(first, second)]
+    return timed(program, [*sizes, *first[0], *first[1], *second[0], *second[1]])
 
 
 def held(program, first, second):
@@ -176,25 +179,25 @@ def held(program, first, second):
     return indices[0], indices[-1]
 
 
-def rounds_asked():
+def rounds_asked(usage, default):
     """The rounds that the command line asks for; the usage, and no further, where it asks for anything else."""
     words = sys.argv[1:]
     if len(words) > 1 or not all(word.isdecimal() and int(word) > 0 for word in words):
-        print(__doc__)
+        print(usage)
         sys.exit(2)
     if not os.path.exists(LIBRARY):
         print("target/staticlib/libpanel_c.a is not there. Build it first: rt staticlib panel_c")
         sys.exit(2)
-    return int(words[0]) if words else ROUNDS
+    return int(words[0]) if words else default
 
 
 def main():
-    rounds = rounds_asked()
+    rounds = rounds_asked(__doc__, ROUNDS)
     first = gates(LISTS["both"])
     second = other_form(*first)
     count = (len(first[0]) + len(second[0])) // model.WORDS_PER_NODE
     with tempfile.TemporaryDirectory() as folder:
-        program = built(folder)
+        program = built(folder, "compare")
         lowest, highest = held(program, first, second)
         best = None
         for _ in range(rounds):

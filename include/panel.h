@@ -44,7 +44,7 @@ enum panel_number {
     PANEL_NOT_EVALUABLE = 8,   /* the list verifies, but a node can not be evaluated */
     PANEL_MANY_INPUTS = 9,     /* the trees differ, and over 30 variables stand below the first root */
     PANEL_LITTLE_WORK = 10,    /* less work space than panel_work_words asks */
-    PANEL_OUT_OF_BOUNDS = 11,  /* too many variables asked for, or a variable or mark past them */
+    PANEL_OUT_OF_BOUNDS = 11,  /* n above PANEL_MOST_INPUTS, or a variable or a mark at n or above */
     PANEL_BAD_ASSIGNMENT = 12, /* more than PANEL_VARIABLES assignment bytes, or a byte above PANEL_BYTE_UNDRIVEN */
     PANEL_BAD_TABLE = 13,      /* a truth-table argument outside its range */
     PANEL_WIDE_GATE = 14,      /* a gate that is not a bit, where it should become a lookup table */
@@ -90,6 +90,12 @@ enum panel_verdict {
     PANEL_INCONCLUSIVE = 2
 };
 
+/* What a separation finds */
+enum panel_judgement {
+    PANEL_SEPARATE = 0,
+    PANEL_CROSSING = 1
+};
+
 /* An assignment byte: what drives the variable of its place */
 enum panel_byte {
     PANEL_BYTE_LOW = 0,
@@ -102,6 +108,7 @@ enum panel_limit {
     PANEL_MOST_NODES = 4096,
     PANEL_MOST_POOL = 16384,
     PANEL_VARIABLES = 256,
+    PANEL_MOST_INPUTS = 30,
     PANEL_WORK_PER_NODE = 16,
     PANEL_WORK_PER_POOL = 2,
     PANEL_PAIR_WORDS = 2
@@ -112,6 +119,7 @@ enum panel_answer_words {
     PANEL_VERIFY_WORDS = 2,
     PANEL_EVALUATE_WORDS = 2,
     PANEL_COMPARE_WORDS = 10,
+    PANEL_SEPARATE_WORDS = 10,
     PANEL_TABLE_WORDS = 3
 };
 
@@ -181,6 +189,23 @@ void panel_evaluate(const uint32_t *nodes, size_t nodes_len, const uint32_t *poo
 void panel_compare(const uint32_t *nodes1, size_t nodes1_len, const uint32_t *pool1, size_t pool1_len,
                    const uint32_t *nodes2, size_t nodes2_len, const uint32_t *pool2, size_t pool2_len, uint64_t *work,
                    size_t work_len, uint64_t answer[PANEL_COMPARE_WORDS]);
+
+/*
+ * Whether what a list answers depends on its run variables: those v below n for which bit v of marks is 1. Bit v of an
+ * assignment's index drives variable v, for 2^n assignments. PANEL_CROSSING is found at the lowest that answers
+ * otherwise than the same assignment with its run bits cleared: another value, a failure on one side alone, or another
+ * failure. Where none does, PANEL_SEPARATE. A mark may stand at a variable that the list does not have.
+ *
+ * answer: number, node; judgement, index; state, width and value of the root at that index, and at that index with its
+ * run bits cleared. Width and value are 0 unless the state is PANEL_VALUE; behind PANEL_SEPARATE all is 0. A refusal's
+ * judgement is PANEL_CROSSING, and all behind it 0.
+ * Numbers in the order in which they are asked: 1, 2, 10; then 3 to 8 as in panel_evaluate; 11 where n is above
+ * PANEL_MOST_INPUTS, a variable at n or above stands anywhere in the list, reached by the root or not, or a mark stands
+ * at bit n or above. The node is 0 but for 3 to 6 and 8.
+ * Left behind: the work space as said at panel_work_words; nodes and pool are only read.
+ */
+void panel_separate(const uint32_t *nodes, size_t nodes_len, const uint32_t *pool, size_t pool_len, uint32_t n,
+                    uint32_t marks, uint64_t *work, size_t work_len, uint64_t answer[PANEL_SEPARATE_WORDS]);
 
 /* ---- truth tables */
 
