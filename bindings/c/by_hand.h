@@ -7,6 +7,9 @@
 /* Every number that a call over lists can answer with, the sizes at which it begins to, and examples. */
 void lists_by_hand(void);
 
+/* Separations: examples, and n, marks and variables just inside and outside their bounds. */
+void separations_by_hand(void);
+
 /* The truth-table routines: examples, and arguments just inside and outside their ranges. */
 void tables_by_hand(void);
 

@@ -1,71 +1,8 @@
 #include "by_hand.h"
 
-#include "lent.h"
-#include "list.h"
-#include "panel.h"
-#include "report.h"
-#include "tries.h"
+#include "by_hand_calls.h"
 
-#include <stddef.h>
-
-/* ---- calls with what they should answer */
-
-static int is_cleared(uint64_t number)
-{
-    return number != PANEL_NOT_ALIGNED && number != PANEL_OVER_LIMIT && number != PANEL_LITTLE_WORK;
-}
-
-static size_t work_of(const struct list *list)
-{
-    return panel_work_words(list->words, list->entries);
-}
-
-static void verify_is(const char *name, const struct list *list, size_t work_len, uint64_t number, uint64_t node)
-{
-    uint64_t answer[PANEL_VERIFY_WORDS];
-    answer[0] = number;
-    answer[1] = node;
-    begin_case(name);
-    try_verify(list, work_len, answer, is_cleared(number));
-}
-
-static void evaluate_refuses(const char *name, const struct list *list, const struct lent *bytes, size_t work_len,
-                             size_t out_len, uint64_t number, uint64_t node)
-{
-    uint64_t answer[PANEL_EVALUATE_WORDS];
-    answer[0] = number;
-    answer[1] = node;
-    begin_case(name);
-    try_evaluate(list, bytes, work_len, out_len, answer, is_cleared(number), NULL, 0);
-}
-
-static void evaluate_is(const char *name, const struct list *list, const struct lent *bytes, size_t out_len,
-                        const uint64_t *pairs)
-{
-    const uint64_t answer[PANEL_EVALUATE_WORDS] = {PANEL_DONE, 0};
-    begin_case(name);
-    try_evaluate(list, bytes, work_of(list), out_len, answer, 1, pairs, panel_pair_words(list->words));
-}
-
-static void compare_is(const char *name, const struct list *first, const struct list *second, const uint64_t *answer)
-{
-    begin_case(name);
-    try_compare(first, second, work_of(first) + work_of(second), answer, is_cleared(answer[0]));
-}
-
-static void compare_refuses(const char *name, const struct list *first, const struct list *second, size_t work_len,
-                            uint64_t number, uint64_t node)
-{
-    uint64_t answer[PANEL_COMPARE_WORDS] = {0, 0, PANEL_INCONCLUSIVE, 0, 0, 0, 0, 0, 0, 0};
-    answer[0] = number;
-    answer[1] = node;
-    begin_case(name);
-    try_compare(first, second, work_len, answer, is_cleared(number));
-}
-
-static const uint64_t equiv[PANEL_COMPARE_WORDS] = {PANEL_DONE, 0, PANEL_EQUIV, 0, 0, 0, 0, 0, 0, 0};
-
-/* ---- small lists, each through all three calls */
+/* ---- small lists, each through every call */
 
 struct sample {
     const char *name;
@@ -74,7 +11,7 @@ struct sample {
     uint32_t pool[4];
     size_t entries;
     uint64_t verify[2];   /* number and node that verifying answers */
-    uint64_t evaluate[2]; /* and evaluating, and comparing */
+    uint64_t evaluate[2]; /* and every other call */
 };
 
 static const struct sample samples[] = {
@@ -111,10 +48,12 @@ static void try_sample(const struct sample *sample, const struct list *variable,
     evaluate_refuses(sample->name, &list, bytes, work, out, number, node);
     compare_refuses(sample->name, &list, variable, both, number, node);
     compare_refuses(sample->name, variable, &list, both, number, node);
+    separate_refuses(sample->name, &list, 30, 1, work, number, node);
     if (work > 0 && number != PANEL_NOT_ALIGNED) {
         verify_is(sample->name, &list, work - 1, PANEL_LITTLE_WORK, 0);
         evaluate_refuses(sample->name, &list, bytes, work - 1, out, PANEL_LITTLE_WORK, 0);
         compare_refuses(sample->name, &list, variable, both - 1, PANEL_LITTLE_WORK, 0);
+        separate_refuses(sample->name, &list, 30, 1, work - 1, PANEL_LITTLE_WORK, 0);
     }
     give_list_back(&list);
 }
@@ -134,13 +73,6 @@ static void small_lists(void)
 
 /* ---- lists at the limits */
 
-/* A list of so many Const nodes and pool entries, all words 0. */
-static struct list zeros(size_t node_count, size_t entries)
-{
-    static const uint32_t words[PANEL_MOST_POOL + 1] = {0};
-    return copied_list(words, PANEL_NODE_WORDS * node_count, words, entries);
-}
-
 static void limit_is(const char *name, size_t node_count, size_t entries, uint64_t number)
 {
     struct list list = zeros(node_count, entries);
@@ -148,9 +80,11 @@ static void limit_is(const char *name, size_t node_count, size_t entries, uint64
     verify_is(name, &list, work_of(&list), number, 0);
     if (number == PANEL_DONE) {
         compare_is(name, &list, &one, equiv);
+        separate_is(name, &list, 0, 0, separate);
     } else {
         compare_refuses(name, &list, &one, work_of(&list) + work_of(&one), number, 0);
         compare_refuses(name, &one, &list, 0, number, 0);
+        separate_refuses(name, &list, 31, 1, 0, number, 0);
     }
     give_list_back(&list);
     give_list_back(&one);
@@ -243,30 +177,6 @@ static void verdicts(void)
     give_list_back(&variable);
     give_list_back(&dc);
     give_list_back(&empty);
-}
-
-/* The Xor of so many variables. */
-static struct list xor_of(uint32_t variables)
-{
-    enum { MOST = 31 };
-    uint32_t nodes[2 * PANEL_NODE_WORDS * MOST];
-    uint32_t pool[2 * MOST];
-    uint32_t node = 0;
-    uint32_t entry = 0;
-    uint32_t i;
-    for (i = 0; i < variables; i++, node++) {
-        nodes[3 * node] = PANEL_VAR;
-        nodes[3 * node + 1] = i;
-        nodes[3 * node + 2] = 0;
-    }
-    for (i = 1; i < variables; i++, node++, entry += 2) {
-        nodes[3 * node] = PANEL_XOR;
-        nodes[3 * node + 1] = entry;
-        nodes[3 * node + 2] = 2;
-        pool[entry] = i;
-        pool[entry + 1] = i == 1 ? 0 : node - 1;
-    }
-    return copied_list(nodes, PANEL_NODE_WORDS * node, pool, entry);
 }
 
 static void many_variables(void)

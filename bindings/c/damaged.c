@@ -105,6 +105,18 @@ void panel_compare(const uint32_t *nodes1, size_t nodes1_len, const uint32_t *po
     damage_words("answer", answer, PANEL_COMPARE_WORDS);
 }
 
+void whole_panel_separate(const uint32_t *, size_t, const uint32_t *, size_t, uint32_t, uint32_t, uint64_t *, size_t,
+                          uint64_t *);
+
+void panel_separate(const uint32_t *nodes, size_t nodes_len, const uint32_t *pool, size_t pool_len, uint32_t n,
+                    uint32_t marks, uint64_t *work, size_t work_len, uint64_t answer[PANEL_SEPARATE_WORDS])
+{
+    whole_panel_separate(nodes, nodes_len, pool, pool_len, n, marks, work, work_len, answer);
+    damage_list(nodes, nodes_len, pool, pool_len);
+    damage_words("work", work, work_len);
+    damage_words("answer", answer, PANEL_SEPARATE_WORDS);
+}
+
 void whole_panel_eval_lut(uint64_t, const uint8_t *, size_t, uint64_t *);
 
 /* One truth-table routine stands for the seven, which are tried alike. */

@@ -3,10 +3,11 @@
  * which of them differ: in an answer word, in what is left in lent memory, or in a word that stands around it. It stops when
  * ten differ.
  *
- * usage: replay tables | verify | evaluate | compare < crates/replay_.../stdin
+ * usage: replay tables | verify | evaluate | compare | separate < crates/replay_.../stdin
  * The status is 0 where there were cases and none differs, 1 where one does, 2 where the cases can not be read.
  *
- * What stands in a line is said in vectors/tables.py, verify.py, evaluate.py and compare.py, which make them.
+ * What stands in a line is said in vectors/tables.py, verify.py, evaluate.py, compare.py and separate.py, which make
+ * them.
  */
 #include "lent.h"
 #include "list.h"
@@ -136,6 +137,24 @@ static void replay_compare(void)
     give_list_back(&second);
 }
 
+/* words entries n marks work, the ten words of the answer, cleared, nodes, pool */
+static void replay_separate(void)
+{
+    size_t words = next_length();
+    size_t entries = next_length();
+    uint32_t n = (uint32_t)next_word(UINT32_MAX);
+    uint32_t marks = (uint32_t)next_word(UINT32_MAX);
+    size_t work_len = next_length();
+    uint64_t answer[PANEL_SEPARATE_WORDS];
+    int cleared;
+    struct list list;
+    next_words(answer, PANEL_SEPARATE_WORDS);
+    cleared = (int)next_word(1);
+    list = read_list(words, entries);
+    try_separate(&list, n, marks, work_len, answer, cleared);
+    give_list_back(&list);
+}
+
 /* ---- all cases */
 
 struct capability {
@@ -148,6 +167,7 @@ static const struct capability capabilities[] = {
     {"verify", replay_verify},
     {"evaluate", replay_evaluate},
     {"compare", replay_compare},
+    {"separate", replay_separate},
 };
 
 static const struct capability *named(const char *name)
@@ -165,7 +185,7 @@ int main(int count, char **arguments)
 {
     const struct capability *capability = count == 2 ? named(arguments[1]) : NULL;
     if (capability == NULL) {
-        puts("usage: replay tables | verify | evaluate | compare < CASES");
+        puts("usage: replay tables | verify | evaluate | compare | separate < CASES");
         return 2;
     }
     while (word_follows() && !enough_differ()) {

@@ -56,6 +56,20 @@ void try_compare(const struct list *first, const struct list *second, size_t wor
     give_back(&block);
 }
 
+void try_separate(const struct list *list, uint32_t n, uint32_t marks, size_t work_len, const uint64_t *answer,
+                  int cleared)
+{
+    struct lent work = lend_pattern("work space", work_len);
+    struct lent block = answer_block(PANEL_SEPARATE_WORDS);
+    panel_separate(lent_u32(&list->nodes), list->words, lent_u32(&list->pool), list->entries, n, marks,
+                   lent_u64(&work), work_len, lent_u64(&block));
+    expect_answer(&block, answer);
+    expect_left(&work, cleared);
+    expect_list_unchanged(list);
+    give_back(&work);
+    give_back(&block);
+}
+
 static void call_table(const struct table_call *call, const struct lent *inputs, uint64_t *answer)
 {
     switch (call->routine) {

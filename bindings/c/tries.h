@@ -15,6 +15,9 @@ void try_evaluate(const struct list *list, const struct lent *bytes, size_t work
 void try_compare(const struct list *first, const struct list *second, size_t work_len, const uint64_t *answer,
                  int cleared);
 
+void try_separate(const struct list *list, uint32_t n, uint32_t marks, size_t work_len, const uint64_t *answer,
+                  int cleared);
+
 enum table_routine {
     EVAL_LUT,
     EVAL_LUT_BV,

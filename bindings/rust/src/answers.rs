@@ -1,4 +1,4 @@
-//! What nodes answer, and what a comparison finds.
+//! What nodes answer, and what a comparison and a separation find.
 use crate::numbers::{Error, Foreign};
 
 /// Why a node has no value.
@@ -14,7 +14,7 @@ pub enum Failure {
     Argument,
 }
 
-/// A root's answer in a comparison.
+/// A root's answer in a comparison or a separation.
 #[derive(Clone, Copy, Debug, PartialEq, Eq, Hash)]
 pub enum Answer {
     /// A value; the bits above its width are 0.
@@ -100,6 +100,41 @@ impl Comparison {
     }
 }
 
+/// What a separation finds.
+#[derive(Clone, Copy, Debug, PartialEq, Eq, Hash)]
+pub enum Judgement {
+    /// No run variable makes a difference.
+    Separate,
+    /// An assignment answers otherwise than itself with its run bits cleared.
+    Crossing,
+}
+
+/// A separation that was not refused. For [`Judgement::Separate`] all but the judgement is zero.
+#[derive(Clone, Copy, Debug, PartialEq, Eq, Hash)]
+pub struct Separation {
+    /// What was found.
+    pub judgement: Judgement,
+    /// The lowest assignment that crosses: bit v drives variable v.
+    pub index: u64,
+    /// The root's answer there.
+    pub run: Answer,
+    /// The root's answer there with the run bits cleared.
+    pub cleared: Answer,
+}
+
+impl Separation {
+    /// The words behind number and node.
+    pub(crate) fn of(words: [u64; 8]) -> Result<Separation, Error> {
+        let [word, index, state1, width1, value1, state2, width2, value2] = words;
+        Ok(Separation {
+            judgement: judgement(word)?,
+            index,
+            run: answer(state1, width1, value1)?,
+            cleared: answer(state2, width2, value2)?,
+        })
+    }
+}
+
 // ---- from words
 
 fn failure(state: u64) -> Result<Failure, Foreign> {
@@ -137,5 +172,13 @@ fn check(verdict: u64) -> Result<Check, Foreign> {
         1 => Ok(Check::NotEquiv),
         2 => Ok(Check::Inconclusive),
         _ => Err(Foreign(verdict)),
+    }
+}
+
+fn judgement(word: u64) -> Result<Judgement, Foreign> {
+    match word {
+        0 => Ok(Judgement::Separate),
+        1 => Ok(Judgement::Crossing),
+        _ => Err(Foreign(word)),
     }
 }

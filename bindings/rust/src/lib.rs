@@ -6,7 +6,7 @@
 //! was refused with [`Number::NotAligned`], [`Number::OverLimit`] or [`Number::LittleWork`].
 //!
 //! ```
-//! use panel::{compare, evaluate, verify, work_for, Answer, Check, List, NodeAnswer};
+//! use panel::{compare, evaluate, separate, verify, work_for, Answer, Check, Judgement, List, NodeAnswer};
 //!
 //! // And(v0, v1), and v0 alone
 //! let gate = List { nodes: &[3, 0, 0, 3, 1, 0, 6, 0, 2], pool: &[0, 1] };
@@ -24,6 +24,13 @@
 //! assert_eq!(comparison.index, 1);
 //! assert_eq!(comparison.first, Answer::Value { width: 1, value: 0 });
 //! assert_eq!(comparison.second, Answer::Value { width: 1, value: 1 });
+//!
+//! // of two variables v1 is marked: with both high the gate is high, and low where v1 is cleared
+//! let separation = separate(gate, 2, 0b10, &mut work)?;
+//! assert_eq!(separation.judgement, Judgement::Crossing);
+//! assert_eq!(separation.index, 3);
+//! assert_eq!(separation.run, Answer::Value { width: 1, value: 1 });
+//! assert_eq!(separation.cleared, Answer::Value { width: 1, value: 0 });
 //! # Ok::<(), panel::Error>(())
 //! ```
 //!
@@ -38,8 +45,8 @@ mod numbers;
 mod raw;
 mod tables;
 
-pub use answers::{Answer, Check, Comparison, Evaluation, Failure, NodeAnswer};
-pub use lists::{compare, evaluate, verify, work_for, List};
+pub use answers::{Answer, Check, Comparison, Evaluation, Failure, Judgement, NodeAnswer, Separation};
+pub use lists::{compare, evaluate, separate, verify, work_for, List};
 pub use numbers::{Error, Foreign, Number, Refusal};
 pub use tables::{
     cofactors_in_msb, eval_lut, eval_lut_bv, eval_lut_const_input, remove_lsb_var, swap_pos, to_bitvec, BitVector,

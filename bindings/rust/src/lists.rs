@@ -1,5 +1,5 @@
 //! The calls over node lists.
-use crate::answers::{Comparison, Evaluation};
+use crate::answers::{Comparison, Evaluation, Separation};
 use crate::numbers::{done_or_refused, Error, Foreign};
 use crate::raw;
 
@@ -99,4 +99,30 @@ pub fn compare(first: List, second: List, work: &mut [u64]) -> Result<Comparison
     let [number, node, words @ ..] = answer;
     done_or_refused(number, node)?;
     Comparison::of(words)
+}
+
+/// Whether what a list answers depends on its run variables: those v below `n` for which bit v of `marks` is 1. Bit v of
+/// an assignment's index drives variable v, for 2^n assignments; each is held against itself with its run bits cleared.
+///
+/// Refused with 1, 2, 10, then 3 to 8, then 11: `n` above 30, a variable at `n` or above anywhere in the list, reached by
+/// the root or not, or a mark at bit `n` or above.
+pub fn separate(list: List, n: u32, marks: u32, work: &mut [u64]) -> Result<Separation, Error> {
+    let mut answer = [0; 10];
+    // SAFETY: each pointer stands with its slice's own length, and the answer block has as many words as the call writes.
+    unsafe {
+        raw::panel_separate(
+            list.nodes.as_ptr(),
+            list.nodes.len(),
+            list.pool.as_ptr(),
+            list.pool.len(),
+            n,
+            marks,
+            work.as_mut_ptr(),
+            work.len(),
+            &mut answer,
+        );
+    }
+    let [number, node, words @ ..] = answer;
+    done_or_refused(number, node)?;
+    Separation::of(words)
 }

@@ -25,7 +25,7 @@ pub enum Number {
     ManyInputs = 9,
     /// Less work space than [`work_for`](crate::work_for) says.
     LittleWork = 10,
-    /// Too many variables asked for, or a variable or mark past them.
+    /// n above 30, or a variable or a mark at n or above.
     OutOfBounds = 11,
     /// More than 256 assignment bytes, or a byte above 2.
     BadAssignment = 12,

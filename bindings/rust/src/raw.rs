@@ -40,6 +40,18 @@ extern "C" {
         answer: *mut [u64; 10],
     );
 
+    pub(crate) fn panel_separate(
+        nodes: *const u32,
+        nodes_len: usize,
+        pool: *const u32,
+        pool_len: usize,
+        n: u32,
+        marks: u32,
+        work: *mut u64,
+        work_len: usize,
+        answer: *mut [u64; 10],
+    );
+
     pub(crate) fn panel_eval_lut(p: u64, inputs: *const u8, inputs_len: usize, answer: *mut [u64; 3]);
     pub(crate) fn panel_eval_lut_bv(p: u64, inputs: *const u8, inputs_len: usize, answer: *mut [u64; 3]);
     pub(crate) fn panel_to_bitvec(p: u64, capacity: u64, answer: *mut [u64; 3]);

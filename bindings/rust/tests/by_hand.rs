@@ -1,7 +1,8 @@
 //! Calls that are written out by hand: every number that a call can answer with, slices of length 0, and document 01's
 //! examples.
 use panel::{
-    compare, evaluate, verify, work_for, Answer, Check, Comparison, Error, Failure, List, NodeAnswer, Number, Refusal,
+    compare, evaluate, separate, verify, work_for, Answer, Check, Comparison, Error, Failure, Judgement, List,
+    NodeAnswer, Number, Refusal, Separation,
 };
 
 const EMPTY: List = List { nodes: &[], pool: &[] };
@@ -30,13 +31,26 @@ fn compared(first: List, second: List) -> Result<Comparison, Error> {
     compare(first, second, &mut work(&[first, second]))
 }
 
+fn separated(list: List, n: u32, marks: u32) -> Result<Separation, Error> {
+    separate(list, n, marks, &mut work(&[list]))
+}
+
+const NOTHING: Answer = Answer::Value { width: 0, value: 0 };
+
 fn value(value: u64) -> Answer {
     Answer::Value { width: 1, value }
 }
 
 fn equiv() -> Comparison {
-    let nothing = Answer::Value { width: 0, value: 0 };
-    Comparison { verdict: Check::Equiv, index: 0, first: nothing, second: nothing }
+    Comparison { verdict: Check::Equiv, index: 0, first: NOTHING, second: NOTHING }
+}
+
+fn apart() -> Separation {
+    Separation { judgement: Judgement::Separate, index: 0, run: NOTHING, cleared: NOTHING }
+}
+
+fn crossing(index: u64, run: Answer, cleared: Answer) -> Separation {
+    Separation { judgement: Judgement::Crossing, index, run, cleared }
 }
 
 // ---- refusals
@@ -62,6 +76,9 @@ fn a_faulty_list_is_refused_by_every_call() {
         assert_eq!(root(list, &[]), Err(other), "{list:?}");
         assert_eq!(compared(list, VARIABLE), Err(other), "{list:?}");
         assert_eq!(compared(VARIABLE, list), Err(other), "{list:?}");
+        assert_eq!(separated(list, 30, 1), Err(other), "{list:?}");
+        // every other number comes before 11
+        assert_eq!(separated(list, 31, 0), Err(other), "{list:?}");
     }
 }
 
@@ -72,6 +89,7 @@ fn a_list_over_the_limits_is_refused() {
         assert_eq!(verified(list), Err(refused(Number::OverLimit, 0)));
         assert_eq!(root(list, &[]), Err(refused(Number::OverLimit, 0)));
         assert_eq!(compared(VARIABLE, list), Err(refused(Number::OverLimit, 0)));
+        assert_eq!(separated(list, 31, 0), Err(refused(Number::OverLimit, 0)));
     }
     assert_eq!(verified(List { nodes: &nodes[3..], pool: &pool[1..] }), Ok(()));
 }
@@ -82,6 +100,7 @@ fn too_little_work_space_is_refused_and_left_alone() {
     assert_eq!(verify(AND, &mut short), Err(refused(Number::LittleWork, 0)));
     assert_eq!(evaluate(AND, &[], &mut short, &mut [0; 6]), Err(refused(Number::LittleWork, 0)));
     assert_eq!(compare(AND, EMPTY, &mut short), Err(refused(Number::LittleWork, 0)));
+    assert_eq!(separate(AND, 31, 0, &mut short), Err(refused(Number::LittleWork, 0)));
     assert!(short.iter().all(|word| *word == 7));
 }
 
@@ -120,6 +139,34 @@ fn over_thirty_variables_are_refused_unless_the_trees_are_equal() {
     assert_eq!(compared(List { nodes: &nodes, pool: &pool }, low), Ok(found));
 }
 
+#[test]
+fn variables_and_marks_out_of_bounds_are_refused() {
+    let beyond = Err(refused(Number::OutOfBounds, 0));
+    let low = List { nodes: &[0, 0, 0], pool: &[] };
+    for n in [31, 32, 256, 1 << 31, u32::MAX] {
+        assert_eq!(separated(low, n, 0), beyond, "{n}");
+    }
+    for (n, marks) in [(0, 1), (3, 8), (30, 1 << 30), (30, 1 << 31), (30, u32::MAX)] {
+        assert_eq!(separated(low, n, marks), beyond, "{n} {marks}");
+    }
+    for (n, marks) in [(0, 0), (3, 7), (30, (1 << 30) - 1)] {
+        assert_eq!(separated(low, n, marks), Ok(apart()), "{n} {marks}");
+    }
+    // v5, as the root and where the root does not reach it
+    let (root, unreached) = (List { nodes: &[3, 5, 0], pool: &[] }, List { nodes: &[3, 5, 0, 0, 1, 0], pool: &[] });
+    assert_eq!(separated(root, 5, 0), beyond);
+    assert_eq!(separated(unreached, 5, 0), beyond);
+    assert_eq!(separated(root, 6, 0), Ok(apart()));
+    assert_eq!(separated(unreached, 6, 63), Ok(apart()));
+}
+
+#[test]
+fn what_is_out_of_bounds_leaves_work_space_cleared() {
+    let mut work = work(&[AND]);
+    assert_eq!(separate(AND, 31, 0, &mut work), Err(refused(Number::OutOfBounds, 0)));
+    assert!(work.iter().all(|word| *word == 0));
+}
+
 // ---- answers
 
 #[test]
@@ -127,6 +174,7 @@ fn empty_slices_can_be_lent() {
     assert_eq!(verify(EMPTY, &mut []), Ok(()));
     assert_eq!(evaluate(EMPTY, &[], &mut [], &mut []), Err(refused(Number::NoRoot, 0)));
     assert_eq!(compare(EMPTY, EMPTY, &mut []), Err(refused(Number::NoRoot, 0)));
+    assert_eq!(separate(EMPTY, 0, 0, &mut []), Err(refused(Number::NoRoot, 0)));
     assert_eq!(panel::eval_lut(1, &[]), Ok(panel::LutBit::Bit(true)));
     assert_eq!(panel::eval_lut_bv(2, &[]), Ok(panel::LutBit::Bit(false)));
 }
@@ -161,6 +209,44 @@ fn lists_are_compared() {
     let undecided = Comparison { verdict: Check::Inconclusive, index: 0, first: value(0), second: failed };
     assert_eq!(compared(VARIABLE, DONT_CARE), Ok(undecided));
     assert_eq!(compared(DONT_CARE, DONT_CARE), Ok(equiv()));
+}
+
+/// Document 01's examples, of two variables v1 marked; and other marks and n for the first.
+#[test]
+fn lists_are_separated() {
+    let high_and_low = crossing(3, value(1), value(0));
+    for marks in [1, 2, 3] {
+        assert_eq!(separated(AND, 2, marks), Ok(high_and_low), "{marks}");
+    }
+    assert_eq!(separated(AND, 2, 0), Ok(apart()));
+    assert_eq!(separated(AND, 30, (1 << 30) - 1), Ok(high_and_low));
+    assert_eq!(separated(AND, 30, (1 << 30) - 4), Ok(apart()));
+    let chosen = List { nodes: &[3, 0, 0, 3, 1, 0, 2, 0, 0, 5, 0, 3], pool: &[1, 2, 0] };
+    assert_eq!(separated(chosen, 2, 2), Ok(crossing(2, Answer::Failed(Failure::DontCare), value(0))));
+    let idle = List { nodes: &[3, 0, 0, 3, 1, 0, 7, 0, 2, 6, 2, 2], pool: &[1, 1, 0, 2] };
+    assert_eq!(separated(idle, 2, 2), Ok(apart()));
+}
+
+#[test]
+fn separations_tell_failures_and_widths() {
+    // Mux(v0, DC, register), and Bus(v0, v1), of which v1 is bit 0
+    let failing = List { nodes: &[3, 0, 0, 2, 0, 0, 11, 0, 4, 5, 4, 3], pool: &[0, 0, 0, 0, 0, 1, 2] };
+    let (one, other) = (Answer::Failed(Failure::DontCare), Answer::Failed(Failure::Register));
+    assert_eq!(separated(failing, 1, 1), Ok(crossing(1, one, other)));
+    let bus = List { nodes: &[3, 0, 0, 3, 1, 0, 10, 0, 2], pool: &[0, 1] };
+    let wide = |value| Answer::Value { width: 2, value };
+    assert_eq!(separated(bus, 2, 2), Ok(crossing(2, wide(1), wide(0))));
+    assert_eq!(separated(bus, 2, 3), Ok(crossing(1, wide(2), wide(0))));
+}
+
+#[test]
+fn thirty_variables_are_separated() {
+    let (nodes, pool) = xor_of(30);
+    let all = List { nodes: &nodes, pool: &pool };
+    assert_eq!(separated(all, 30, 1 << 29 | 1), Ok(crossing(1, value(1), value(0))));
+    assert_eq!(separated(all, 30, 1 << 29 | 1 << 9), Ok(crossing(512, value(1), value(0))));
+    let last = List { nodes: &[3, 29, 0], pool: &[] };
+    assert_eq!(separated(last, 30, 1 << 29), Ok(crossing(1 << 29, value(1), value(0))));
 }
 
 #[test]

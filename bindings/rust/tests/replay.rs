@@ -1,6 +1,7 @@
 //! Replays the recorded cases of every capability through the safe calls: the answers, what is left in work space and
-//! output, and the words beside them. What stands in a line is said in vectors/tables.py, verify.py, evaluate.py and
-//! compare.py. That nothing which is lent to be read changes is tried by bindings/c/replay.c; Rust takes it for granted.
+//! output, and the words beside them. What stands in a line is said in vectors/tables.py, verify.py, evaluate.py,
+//! compare.py and separate.py. That nothing which is lent to be read changes is tried by bindings/c/replay.c; Rust takes
+//! it for granted.
 mod support;
 
 use panel::{Evaluation, Foreign, List};
@@ -94,6 +95,19 @@ fn compare(words: &mut Words) -> Vec<String> {
     faults
 }
 
+fn separate(words: &mut Words) -> Vec<String> {
+    let (node_words, entries) = (words.length(), words.length());
+    let (n, marks) = (words.word32(), words.word32());
+    let mut work = Lent::new("work space", words.length());
+    let expected = words.block();
+    let cleared = words.flag();
+    let (nodes, pool) = (words.words32(node_words), words.words32(entries));
+    let got = panel::separate(List { nodes: &nodes, pool: &pool }, n, marks, work.part());
+    let mut faults = work.faults(0, cleared);
+    faults.extend(same("answered", words_of::separation(got), Ok(expected)));
+    faults
+}
+
 #[test]
 fn replay_tables() {
     replay("tables", table);
@@ -112,4 +126,9 @@ fn replay_evaluate() {
 #[test]
 fn replay_compare() {
     replay("compare", compare);
+}
+
+#[test]
+fn replay_separate() {
+    replay("separate", separate);
 }

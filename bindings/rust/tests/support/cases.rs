@@ -21,6 +21,10 @@ impl Words {
         usize::try_from(self.word()).expect("a length is too large")
     }
 
+    pub fn word32(&mut self) -> u32 {
+        u32::try_from(self.word()).expect("a word is too large for its place")
+    }
+
     pub fn flag(&mut self) -> bool {
         match self.word() {
             0 => false,
@@ -38,7 +42,7 @@ impl Words {
     }
 
     pub fn words32(&mut self, count: usize) -> Vec<u32> {
-        (0..count).map(|_| u32::try_from(self.word()).expect("a word is too large for its list")).collect()
+        (0..count).map(|_| self.word32()).collect()
     }
 
     pub fn bytes(&mut self, count: usize) -> Vec<u8> {

@@ -1,7 +1,7 @@
 //! What a call handed back, as the words that the cases are recorded in.
 use panel::{
-    Answer, BitVector, Check, Cofactors, Comparison, Error, Failure, Foreign, LutBit, NodeAnswer, Refusal, Removed,
-    TableProgram,
+    Answer, BitVector, Check, Cofactors, Comparison, Error, Failure, Foreign, Judgement, LutBit, NodeAnswer, Refusal,
+    Removed, Separation, TableProgram,
 };
 
 const OUT_OF_RANGE: [u64; 3] = [13, 0, 0];
@@ -62,6 +62,24 @@ pub fn comparison(result: Result<Comparison, Error>) -> Result<[u64; 10], Foreig
     let [state1, width1, value1] = answer(found.first);
     let [state2, width2, value2] = answer(found.second);
     Ok([number, node, verdict(found.verdict), found.index, state1, width1, value1, state2, width2, value2])
+}
+
+fn judgement(judgement: Judgement) -> u64 {
+    match judgement {
+        Judgement::Separate => 0,
+        Judgement::Crossing => 1,
+    }
+}
+
+/// A refusal's judgement is Crossing, and all behind it 0.
+pub fn separation(result: Result<Separation, Error>) -> Result<[u64; 10], Foreign> {
+    let [number, node] = done(&result)?;
+    let Ok(found) = result else {
+        return Ok([number, node, 1, 0, 0, 0, 0, 0, 0, 0]);
+    };
+    let [state1, width1, value1] = answer(found.run);
+    let [state2, width2, value2] = answer(found.cleared);
+    Ok([number, node, judgement(found.judgement), found.index, state1, width1, value1, state2, width2, value2])
 }
 
 pub fn lut_bit(answer: LutBit) -> [u64; 3] {
