@@ -257,8 +257,8 @@ def long_chains():
         expect_shared(crossing(1, *sides) if marks == 1 else SEPARATE, net, 2, marks)
 
 
-def every_pair(rng):
-    """n and the marks of each size, over a list whose crossing is known for each marking: a Mux of two minterms."""
+def two_minterms(rng):
+    """n and marks of each size, over a tree that is odd at two places."""
     for n, _ in itertools.product(range(1, 9), range(6)):
         one, two = rng.randrange(2 ** n), rng.randrange(2 ** n)
         marks = rng.randrange(2 ** n)
@@ -270,4 +270,4 @@ def every_pair(rng):
 
 BY_HAND = (
     each_variable, more_variables_than_listed, no_variables, spread_variables, strangers, last_assignments, parities,
-    minterms, thirty_variables, few_of_thirty, all_of_many, deep_columns, long_chains, every_pair)
+    minterms, thirty_variables, few_of_thirty, all_of_many, deep_columns, long_chains, two_minterms)

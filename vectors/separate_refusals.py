@@ -76,9 +76,10 @@ def layout_order():
         expect(refused(number, 1), faulty, 2, 2)
         expect(refused(number, 1), faulty, 1, 2)
     expect(refused(4, 0), of(KIND["And"], 0, 1, pool=[2]), 0, 0)
-    # number 3 of a high node before 6 and 8 of a lower; 6 of a high node before 8 of a lower
-    for late in (of(9, 0, 0, 17, 0, 0), of(1, 0, 0, 8, 0, 1, 17, 0, 0, pool=[0])):
-        expect(refused(3, len(late[0]) // 3 - 1), late, 0, 0)
+    # 3, 4 and 5 of a high node before 6 and 8 of a lower; 6 of a high node before 8 of a lower
+    for number, words in faults.items():
+        expect(refused(number, 1), of(9, 0, 0, *words, pool=[1]), 0, 0)
+        expect(refused(number, 2), of(1, 0, 0, 8, 1, 1, *words, pool=[2, 0]), 0, 0)
     both = of(1, 0, 0, 8, 0, 1, 9, 0, 0, 6, 1, 2, pool=[0, 1, 2])
     expect(refused(FAILS, 2), both, 0, 0)
     expect(refused(FAILS, 2), both, 31, 1)

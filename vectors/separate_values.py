@@ -6,7 +6,7 @@ import itertools
 
 from compare_values import GATE_DIGITS, digits_of, listed_mux, program_of, table_tree
 from comparisons import FIRST_STATES, bit, fails, told, value
-from networks import ARG, DONT_CARE, FAILURES, REGISTER
+from networks import ARG, DONT_CARE, REGISTER
 from separations import SEPARATE, crossing, expect, expect_ways, scanned
 from trees import bus, joined, lut, variables
 
@@ -18,8 +18,7 @@ EXAMPLES = {("And", "v0", "v1"): "0001", ("Mux", "v1", "dc", "v0"): "01dd", ("An
 
 
 def starred_examples(rng):
-    """ "Separation, n = 2, v1 marked: And(v0, v1) Crossing at 3; Mux(v1, DC, v0) Crossing at 2; And(v0, Xor(v1, v1))
-    Separate." """
+    """n = 2, v1 marked: "And(v0, v1) Crossing at 3; Mux(v1, DC, v0) Crossing at 2; And(v0, Xor(v1, v1)) Separate"."""
     zero, one = value(1, 0), value(1, 1)
     both, chosen, idle = EXAMPLES
     expect_ways(crossing(3, one, zero), both, 2, 2, rng, 8)
@@ -29,7 +28,8 @@ def starred_examples(rng):
     for tree, states in EXAMPLES.items():
         for n, marks in itertools.product((2, 3, 5, 30), range(4)):
             expect(scanned(states, marks), tree, n, marks)
-            expect(scanned(states, marks), tree, n, marks + 2 ** n - 2 ** (n - 1 if n > 2 else n))
+            if n > 2:
+                expect(scanned(states, marks), tree, n, marks + 2 ** (n - 1))
 
 
 # ---- tables of values, under every marking
@@ -274,10 +274,10 @@ def chosen_buses(rng):
             sides = (value(width, int("".join(side), 2)) for side in (ones, others))
             expect_ways(crossing(4, *sides) if crossed else SEPARATE, tree, 3, 4, rng, 1)
             expect(SEPARATE, tree, 3, 3)
-    for width, failure in itertools.product((0, 1, 2, 64), FAILURES[1:]):
-        failing = ("Mux", bit("udra"[failure - 1]), bus("1" * width), bus("0" * width))
+    for width, letter in itertools.product((0, 1, 2, 64), "dra"):
+        failing = ("Mux", bit(letter), bus("1" * width), bus("0" * width))
         tree = ("Mux", "v0", failing, bus("1" * width))
-        expect(crossing(1, fails(failure), value(width, 2 ** width - 1)), tree, 1, 1)
+        expect(crossing(1, told(letter), value(width, 2 ** width - 1)), tree, 1, 1)
         expect(SEPARATE, ("Mux", "v0", failing, failing), 1, 1)
 
 
