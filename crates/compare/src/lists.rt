@@ -1,13 +1,13 @@
 // Two lists through the comparer, and its answer in plain words.
-use super::refused::is_accepted;
 use super::refused::write_list;
-use super::variables::variables_below;
-use super::variables::write_warning;
 use comparer::func_equiv;
 use comparison_text::write_comparison;
 use inputs::driving::no_variables;
 use libc::STDOUT_FILENO;
 use list_room::written::pair_work_room;
+use long_searches::is_accepted;
+use long_searches::variables::variables_below;
+use long_searches::write_warning;
 use meaning::numbers::DONE;
 use refusal_text::write_refusal;
 ghost use mathlib.Core.Path.{_≡_};
@@ -48,7 +48,7 @@ fn compare_in(
 {
     let count = variables_below(nodes, pool, work, variables);
     if is_accepted(second_nodes, second_pool, work) {
-        write_warning(count);
+        write_warning(count, b" variables below the first root");
     }
     let comparison = func_equiv(nodes, pool, second_nodes, second_pool, work);
     let refusal = comparison.refusal;

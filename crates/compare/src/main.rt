@@ -5,9 +5,9 @@ mod files;
 mod input;
 mod lists;
 mod refused;
-mod variables;
 
 use libc::STDOUT_FILENO;
+use list_files::names_input;
 
 fn write_usage() {
     io::write_all(
@@ -20,13 +20,6 @@ fn write_usage() {
     );
 }
 
-// Is the first argument `-`?
-fn names_input() -> bool {
-    let mut argument = io::buffer();
-    let n = os::arg(1, &mut argument);
-    n == 1 && argument[0] == b'-'
-}
-
 // Without an argument, examples. The program's own name is the first of its arguments.
 fn main() {
     let arguments = os::arg_count();
@@ -34,7 +27,7 @@ fn main() {
         files::compare_arguments();
         return;
     }
-    if arguments == 2 && names_input() {
+    if arguments == 2 && names_input(1) {
         input::compare_input();
         return;
     }

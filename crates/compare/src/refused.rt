@@ -1,4 +1,4 @@
-// Whether a list is refused, and which of two a refusal is of.
+// Which of two lists a refusal is of.
 use libc::STDOUT_FILENO;
 use meaning::Refusal;
 use meaning::numbers::DONE;
@@ -10,17 +10,6 @@ use verifier::sound;
 ghost use Prim.Native.Nat.{_≤_};
 ghost use lib.ListN.{length};
 ghost use Rattle.list_room.specs.Written.{pairWorkRoom, Taken};
-
-// Do the numbers 1 to 8 let a list pass?
-pub(crate) fn is_accepted(nodes: &[u32], pool: &[u32], work: &mut [u64]) -> bool
-    requires { ⌜ Taken (now nodes) (now pool) ⌝ }
-    requires { ⌜ pairWorkRoom ≤ length (now work) ⌝ }
-{
-    if is_refusing(sizes(nodes, pool)) {
-        return false;
-    }
-    !is_refusing(sound(nodes, pool, 0, work))
-}
 
 pub(crate) fn write_list(number: u32, nodes: &[u32], pool: &[u32], work: &mut [u64])
     requires { ⌜ Taken (now nodes) (now pool) ⌝ }

@@ -1,9 +1,9 @@
 // A comparison in plain words (document 01, "Comparison and separation": "The result carries verdict, i and both
 // answers"): what a program tells a user with. No contract can say what is written; a program's output is recorded.
-use meaning::Answer;
+use answer_text::write_answer;
+use answer_text::write_variable;
 use meaning::Check;
 use meaning::Comparison;
-use meaning::Failure;
 
 // The verdict; and where an assignment decides, which one, variable by variable, and both answers. The variables are
 // those below the first root, lowest first.
@@ -48,42 +48,12 @@ fn write_answers(fd: i32, comparison: Comparison) {
 fn write_assignment(fd: i32, index: u64, variables: &[usize]) {
     let mut bits = index;
     for j in 0..variables.len() {
-        write_variable(fd, variables[j], bits % 2);
+        write_line(fd, variables[j], bits % 2);
         bits = bits / 2;
     }
 }
 
-fn write_variable(fd: i32, variable: usize, bit: u64) {
-    io::write_all(fd, b"  v");
-    io::print_decimal(fd, variable as u64);
-    io::write_all(fd, b" = ");
-    io::print_decimal(fd, bit);
+fn write_line(fd: i32, variable: usize, bit: u64) {
+    write_variable(fd, variable as u64, bit);
     io::write_all(fd, b"\n");
-}
-
-// "An answer is a width with a value, or a failure"
-fn write_answer(fd: i32, answer: Answer) {
-    match answer {
-        Answer::Value { width, value } => {
-            io::write_all(fd, b"value ");
-            io::print_decimal(fd, value);
-            io::write_all(fd, b", width in bits ");
-            io::print_decimal(fd, width as u64);
-        }
-        Answer::Failed(failure) => {
-            io::write_all(fd, b"failure: ");
-            write_failure(fd, failure);
-        }
-    }
-    io::write_all(fd, b"\n");
-}
-
-// "1 undriven, 2 DC, 3 register, 4 ARG"
-fn write_failure(fd: i32, failure: Failure) -> bool {
-    match failure {
-        Failure::Undriven => io::write_all(fd, b"undriven"),
-        Failure::DontCare => io::write_all(fd, b"don't-care"),
-        Failure::Register => io::write_all(fd, b"register"),
-        Failure::Argument => io::write_all(fd, b"ARG"),
-    }
 }

@@ -2,6 +2,7 @@
 // places, and is told that the list stands at their start, so that it can be lent on (list_parts, specs/Parts, `Held`);
 // what a file holds no contract can say. Where there is no list, the reason is on standard error.
 use libc::STDERR_FILENO;
+use libc::STDIN_FILENO;
 use list_parts::Found;
 use list_parts::ends;
 use list_parts::find_list;
@@ -12,6 +13,23 @@ ghost use Rattle.list_files.specs.Texts as texts;
 pub enum Text {
     Bytes(usize),
     Nothing,
+}
+
+// Is that argument `-`, which stands for standard input?
+pub fn names_input(i: usize) -> bool {
+    let mut argument = io::buffer();
+    let n = os::arg(i, &mut argument);
+    n == 1 && argument[0] == b'-'
+}
+
+// The list that is alone in the file which an argument names, or on standard input.
+pub fn list_of_source(i: usize, nodes: &mut [u32], pool: &mut [u32]) -> Found
+    ensures { λ r. ⌜ parts.Held (now (nodes .exit)) (now (pool .exit)) r ⌝ }
+{
+    if names_input(i) {
+        return list_of_file(STDIN_FILENO, b"standard input", nodes, pool);
+    }
+    list_of_argument(i, nodes, pool)
 }
 
 // The list that is alone in the file which an argument names.

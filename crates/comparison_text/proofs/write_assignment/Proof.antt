@@ -15,14 +15,14 @@ abbrev μ-loop : tie.MeasureT-loop
 loop-holds : tie.Need-loop-holds Inv-loop μ-loop
 loop-holds c = search needs
 
-mul-write-variable : tie.Need-mul-write-variable Inv-loop μ-loop
-mul-write-variable c = search needs
+mul-write-line : tie.Need-mul-write-line Inv-loop μ-loop
+mul-write-line c = search needs
 
-shared-slice-read-write-variable : tie.Need-shared-slice-read-write-variable Inv-loop μ-loop
-shared-slice-read-write-variable c = search needs
+shared-slice-read-write-line : tie.Need-shared-slice-read-write-line Inv-loop μ-loop
+shared-slice-read-write-line c = search needs
 
-write-variable-requires : tie.Need-write-variable-requires Inv-loop μ-loop
-write-variable-requires c κs = search needs
+write-line-requires : tie.Need-write-line-requires Inv-loop μ-loop
+write-line-requires c κs = search needs
 
 add-j : tie.Need-add-j Inv-loop μ-loop
 add-j c = search needs
@@ -43,9 +43,9 @@ write-assignment-spec =
     Inv-loop
     μ-loop
     loop-holds
-    mul-write-variable
-    shared-slice-read-write-variable
-    write-variable-requires
+    mul-write-line
+    shared-slice-read-write-line
+    write-line-requires
     add-j
     loop-less
     loop-again

@@ -10,6 +10,9 @@ variables-below-requires c κs = search needs
 is-accepted-requires : tie.Need-is-accepted-requires
 is-accepted-requires c κs = search needs
 
+slice-aggregate-write-warning : tie.Need-slice-aggregate-write-warning
+slice-aggregate-write-warning c = search needs
+
 write-warning-requires : tie.Need-write-warning-requires
 write-warning-requires c κs = search needs
 
@@ -57,6 +60,7 @@ compare-in-spec =
     (tie.spec
     variables-below-requires
     is-accepted-requires
+    slice-aggregate-write-warning
     write-warning-requires
     func-equiv-requires
     slice-reshare-prefix-write-comparison

@@ -1,2 +1,0 @@
--- the variables that a user is shown
-pub mod Shown

@@ -1,0 +1,2 @@
+-- a number on the command line
+pub mod Numbers
