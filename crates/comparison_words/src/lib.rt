@@ -1,8 +1,8 @@
 // A comparison's result as ten words (include/panel.h; document 01, "The result carries verdict, i and both answers"):
 // what crosses the C interface. The plain meaning is specs/Words, `comparisonWords`.
-use answer_words::words_of;
 use meaning::Check;
 use meaning::Comparison;
+use result_words::of_result;
 ghost use mathlib.Core.Path.{_≡_};
 ghost use Rattle.meaning.specs.Rules.Verdict.{checkNumber};
 ghost use Rattle.comparison_words.specs.Words.{comparisonWords};
@@ -15,20 +15,8 @@ pub fn ten_words(comparison: Comparison) -> [u64; 10]
     let verdict = comparison.verdict;
     let first = comparison.first;
     let second = comparison.second;
-    let one = words_of(first);
-    let two = words_of(second);
-    [
-        refusal.number as u64,
-        refusal.node as u64,
-        verdict_number(verdict),
-        comparison.index,
-        one.state,
-        one.width,
-        one.value,
-        two.state,
-        two.width,
-        two.value,
-    ]
+    let number = verdict_number(verdict);
+    of_result(refusal, number, comparison.index, first, second)
 }
 
 // 0 Equiv, 1 NotEquiv, 2 Inconclusive

@@ -12,6 +12,9 @@ pub const POOL_ROOM: usize = 16400;
 
 pub const WORK_ROOM: usize = 98400;
 
+// Room for the text that a replay reads its cases from, two megabytes
+pub const TEXT_ROOM: usize = 2097152;
+
 // Each is a call, so that a proof has an array of that length before it and not so many zeros.
 
 pub fn node_room() -> [u32; NODE_ROOM]
@@ -30,4 +33,10 @@ pub fn work_room() -> [u64; WORK_ROOM]
     ensures { λ r. ⌜ r ≡ zeros 98400 ⌝ }
 {
     [0; WORK_ROOM]
+}
+
+pub fn text_room() -> [u8; TEXT_ROOM]
+    ensures { λ r. ⌜ r ≡ zeros 2097152 ⌝ }
+{
+    [0; TEXT_ROOM]
 }

@@ -2,11 +2,14 @@
 use comparer::func_equiv;
 use comparison_words::ten_words;
 use evaluator::eval;
+use separator::separate;
 use verifier::verify_expr;
 ghost use mathlib.Core.Path.{_≡_};
 ghost use Rattle.meaning.specs.Rules.Calls.{verify, evaluate, compare};
+ghost use Rattle.meaning.specs.Rules.Calls as calls;
 ghost use Rattle.panel_c.specs.Words.{refusalWords};
 ghost use Rattle.comparison_words.specs.Words.{comparisonWords};
+ghost use Rattle.separation_words.specs.Words.{separationWords};
 
 // `verify_expr`: number, node.
 #[no_mangle]
@@ -52,4 +55,22 @@ pub extern "C" fn panel_compare(
 {
     let comparison = func_equiv(nodes, pool, second_nodes, second_pool, work);
     *answer = ten_words(comparison);
+}
+
+// `separate`: number, node, judgement, index, then state, width and value of the root's answer there and of that with
+// the run bits cleared.
+#[no_mangle]
+pub extern "C" fn panel_separate(
+    nodes: &[u32],
+    pool: &[u32],
+    n: u32,
+    marks: u32,
+    work: &mut [u64],
+    answer: &mut [u64; 10],
+)
+    ensures { λ _. ⌜ now (answer .exit) ≡ separationWords (calls.separate (now (nodes .entry)) (now (pool .entry)) n marks (now (work .entry)) .answer) ⌝ }
+    ensures { λ _. ⌜ now (work .exit) ≡ calls.separate (now (nodes .entry)) (now (pool .entry)) n marks (now (work .entry)) .work ⌝ }
+{
+    let separation = separate(nodes, pool, n, marks, work);
+    *answer = separation_words::ten_words(separation);
 }

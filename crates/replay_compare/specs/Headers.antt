@@ -8,9 +8,6 @@ use Rattle.replay_compare.specs.Room.{FitsRoom}
 use Rattle.replay_compare.specs.declared.cases.Header.{Header}
 use Rattle.replay_compare.specs.declared.cases.Header.the-variants.{Given, End, Bad}
 
-abbrev pub rowWords : ℕ
-rowWords = 16
-
 abbrev pub UsableRow : ℕ → Header → Type 0
 UsableRow next (Given c after) = (after ≡ next) × FitsRoom (c .sizes)
 UsableRow next End = Unit

@@ -1,22 +1,20 @@
 // A case begins with a row of sixteen decimal words:
 //   0 and 1 how many node words and pool entries of the first list    2 and 3 of the second
 //   4 how many words of work space
-//   5 and 6 the refusal that is expected, its number and its node
-//   7 and 8 the verdict that is expected, 0 Equiv, 1 NotEquiv, 2 Inconclusive, and the assignment
-//   9, 10 and 11 the first list's answer there: its state, width and value    12, 13 and 14 the second's
-//   15 what is expected of the work space: 1 all zeros, 0 untouched
+//   5 to 15 what is expected, as `replay_results` reads it: what is found is the verdict, 0 Equiv, 1 NotEquiv,
+//   2 Inconclusive; the answers are those of the first list and of the second
 // Behind the row stand the node words and the pool entries of the first list, and behind those the second's, each below
 // 2^32.
 use super::room::WORK_ROOM;
-use answer_words::Words;
 use decimals::Row;
 use decimals::next_row;
 use list_room::NODE_ROOM;
 use list_room::POOL_ROOM;
+use replay_results::Expected;
+use replay_results::ROW_WORDS;
+use replay_results::expected_of;
 ghost use Rattle.replay_compare.specs.Headers.{Usable, UsableRow};
 ghost use Rattle.replay_compare.specs.Room.{Enough};
-
-const ROW_WORDS: usize = 16;
 
 // How much of each thing is lent
 pub(crate) struct Sizes {
@@ -25,16 +23,6 @@ pub(crate) struct Sizes {
     pub(crate) second_words: usize,
     pub(crate) second_entries: usize,
     pub(crate) work: usize,
-}
-
-pub(crate) struct Expected {
-    pub(crate) number: u64,
-    pub(crate) node: u64,
-    pub(crate) verdict: u64,
-    pub(crate) index: u64,
-    pub(crate) first: Words,
-    pub(crate) second: Words,
-    pub(crate) cleared: bool,
 }
 
 pub(crate) struct Case {
@@ -110,25 +98,5 @@ fn sizes_of(row: &[u64; ROW_WORDS]) -> Sizes {
         second_words: row[2] as usize,
         second_entries: row[3] as usize,
         work: row[4] as usize,
-    }
-}
-
-fn expected_of(row: &[u64; ROW_WORDS]) -> Expected {
-    Expected {
-        number: row[5],
-        node: row[6],
-        verdict: row[7],
-        index: row[8],
-        first: Words {
-            state: row[9],
-            width: row[10],
-            value: row[11],
-        },
-        second: Words {
-            state: row[12],
-            width: row[13],
-            value: row[14],
-        },
-        cleared: row[15] == 1,
     }
 }

@@ -4,26 +4,27 @@
 mod cases;
 mod lists;
 mod room;
-mod seen;
 
 use cases::Case;
-use cases::Expected;
 use cases::Header;
 use cases::next_header;
 use comparer::func_equiv;
+use comparison_words::ten_words;
 use lent_words::fill;
 use lent_words::is_left;
+use list_room::TEXT_ROOM;
 use list_room::node_room;
 use list_room::pool_room;
+use list_room::text_room;
 use list_words::Entries;
 use lists::next_lists;
 use replay_report::Outcome;
 use replay_report::Turn;
 use replay_report::report;
 use replay_report::too_long;
+use replay_results::Expected;
+use replay_results::judged;
 use room::work_room;
-use seen::judged;
-use seen::seen_of;
 ghost use Prim.Native.Nat.{_+_, _≤_};
 ghost use lib.ListN.{length};
 ghost use Rattle.replay_compare.specs.Room.{FitsLists, FitsSpace};
@@ -47,7 +48,7 @@ fn called(
     fill(work);
     let given = func_equiv(nodes, pool, second_nodes, second_pool, work);
     let left = is_left(work, 0, expected.cleared);
-    judged(number, expected, seen_of(given, left))
+    judged(number, b"verdict", expected, &ten_words(given), left)
 }
 
 // Work space as long as the case asks. Each case has new room, so that none finds what another left.
@@ -166,17 +167,12 @@ fn replay(text: &[u8]) -> Outcome {
     }
 }
 
-// A call, so that a proof has an array of this length before it and not so many zeros.
-fn space() -> [u8; 2097152] {
-    [0; 2097152]
-}
-
-// An input that fills the whole space may go on behind it, and is not replayed in part. The stack must hold the text and
+// An input that fills the whole room may go on behind it, and is not replayed in part. The stack must hold the text and
 // the room for a case, some four megabytes together.
 fn main() {
-    let mut text = space();
+    let mut text = text_room();
     let n = io::read_full(0, &mut text);
-    if n == 2097152 {
+    if n == TEXT_ROOM {
         too_long(n);
         return;
     }

@@ -18,8 +18,10 @@ use inputs::next_inputs;
 use lent_words::fill;
 use lent_words::is_left;
 use libc::STDOUT_FILENO;
+use list_room::TEXT_ROOM;
 use list_room::node_room;
 use list_room::pool_room;
+use list_room::text_room;
 use list_room::work_room;
 use list_words::Entries;
 use meaning::Refusal;
@@ -254,17 +256,12 @@ fn replay(text: &[u8]) -> Outcome {
     }
 }
 
-// A call, so that a proof has an array of this length before it and not so many zeros.
-fn space() -> [u8; 2097152] {
-    [0; 2097152]
-}
-
-// An input that fills the whole space may go on behind it, and is not replayed in part. The stack must hold the text and the
-// room for a case, some three megabytes together.
+// An input that fills the whole room may go on behind it, and is not replayed in part. The stack must hold the text and
+// the room for a case, some three megabytes together.
 fn main() {
-    let mut text = space();
+    let mut text = text_room();
     let n = io::read_full(0, &mut text);
-    if n == 2097152 {
+    if n == TEXT_ROOM {
         too_long(n);
         return;
     }

@@ -2,7 +2,8 @@
 use native.Mathlib.Omega.{arith}
 use mathlib.Core.Path.{sym, _∙_}
 use Rattle.decimals.specs.RowLaws.{row-ahead}
-use Rattle.replay_compare.specs.Headers.{rowWords, row-usable}
+use Rattle.replay_compare.specs.Headers.{row-usable}
+use Rattle.replay_results.specs.Results.{rowWords}
 use borrow.Author.Needs.{needs}
 use Rattle.replay_compare.proofs.cases.next_header.Statement.{statement}
 use Rattle.replay_compare.proofs.cases.next_header.Tie as tie

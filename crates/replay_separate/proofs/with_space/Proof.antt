@@ -1,0 +1,34 @@
+-- `with_space` lends a part that is there, since the case fits.
+use lib.Seq.{length-take-le}
+use native.Mathlib.Omega.{arith}
+use mathlib.Core.Path.{sym}
+use borrow.Author.Needs.{needs}
+use Rattle.replay_separate.proofs.with_space.Statement.{statement}
+use Rattle.replay_separate.proofs.with_space.Tie as tie
+
+work-room-requires : tie.Need-work-room-requires
+work-room-requires c κs = search needs
+
+array-borrow-prefix-work : tie.Need-array-borrow-prefix-work
+array-borrow-prefix-work c = search needs
+
+slice-aggregate-called : tie.Need-slice-aggregate-called
+slice-aggregate-called c =
+    let s = c .before .before .before .before in
+    sym (length-take-le (s .args .case .sizes .work) (c .before .work-room .result) (omega (arith, s .pre)))
+
+called-requires : tie.Need-called-requires
+called-requires c κs = search needs
+
+returns : tie.Need-returns
+returns c = search needs
+
+pub with-space-spec : {M : Type 1} → statement M
+with-space-spec =
+    tie.close
+    (tie.spec
+    work-room-requires
+    array-borrow-prefix-work
+    slice-aggregate-called
+    called-requires
+    returns)

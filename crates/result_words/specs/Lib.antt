@@ -1,0 +1,2 @@
+-- the words of a result with two answers
+pub mod Words

@@ -1,0 +1,2 @@
+-- the words of a separation
+pub mod Words
