@@ -2,21 +2,22 @@
 -- value as wide as the node's shape, at most 64 wide, that its width holds.
 use Prim.Native.Nat.{ℕ, zero, suc, _+_, _≤_, _<_}
 use mathlib.Core.Path.{_≡_, refl, sym, ap, subst, _∙_}
-use mathlib.Core.List.{List, [], _∷_}
-use mathlib.Core.Bool.{Bool, true, false}
+use mathlib.Core.List.{List}
+use mathlib.Core.Bool.{true}
 use native.Mathlib.Nat.{add-zero}
 use native.Mathlib.Omega.{arith}
 use lib.ListN.{length, getD, drop}
 use borrow.Author.Tests.{eqb-true, leb-true}
 use Rattle.meaning.specs.declared.Answer.{Answer}
 use Rattle.meaning.specs.Rules.Limits.{widestBus}
-use Rattle.meaning.specs.Rules.Kinds.{Kind, Const, Program, DC, Var, Nor, Mux, And, Xor, Not, Lut, Bus, Reg, Arg, Cycle, Unknown, kinds, kindOf, mayHave}
+use Rattle.meaning.specs.Rules.Kinds.{Kind, Const, Program, DC, Var, Nor, Mux, And, Xor, Not, Lut, Bus, Reg, Arg, Cycle, Unknown, kindOf, mayHave}
 use Rattle.meaning.specs.Rules.Trees.{nodeCount, kindAt, datumAt, childrenAt, treeOf}
 use Rattle.meaning.specs.Rules.Refusals.{every}
 use Rattle.meaning.specs.Rules.Reach.{markOf}
 use Rattle.meaning.specs.Rules.Evaluable.{Shape, bit, program, bus, widthOf, isBit, isLogic, sameShape, alike, nthShape, shapeStep, shape, fits}
 use Rattle.meaning.specs.Rules.Answers.{Assignment, answer, step, nth, blank, busOf, operands, valueOf}
 use Rattle.meaning.specs.Claims.Column.{Sound}
+use Rattle.meaning.specs.Laws.KindLaws.{wordOf, kind-word}
 use Rattle.meaning.specs.Laws.BoolLaws.{true-false, and-left, and-right}
 use Rattle.meaning.specs.Laws.TestLaws.{every-nth}
 use Rattle.operators.specs.Widths.{Within, and-within, xor-within, not-within, nor-within, mux-within, row-within, driven-within, bus-within}
@@ -110,31 +111,8 @@ module _ (α : Assignment) (d : ℕ) (ss : List Shape) (xs : List Answer) (size 
   step-fine Unknown k a f l = absurd (true-false a refl)
 
 -- ---- only kind 0 is Const
-abbrev notConst : Kind → Bool
-notConst Const = false
-notConst Program = true
-notConst DC = true
-notConst Var = true
-notConst Nor = true
-notConst Mux = true
-notConst And = true
-notConst Xor = true
-notConst Not = true
-notConst Lut = true
-notConst Bus = true
-notConst Reg = true
-notConst Arg = true
-notConst Cycle = true
-notConst Unknown = true
-
-passes-at : (ks : List Kind) → every notConst ks ≡ true → (i : ℕ) → notConst (getD ks i Unknown) ≡ true
-passes-at [] h i = refl
-passes-at (k ∷ ks) h zero = and-left (notConst k) (every notConst ks) h
-passes-at (k ∷ ks) h (suc i) = passes-at ks (and-right (notConst k) (every notConst ks) h) i
-
 const-kind : (k : ℕ) → kindOf k ≡ Const → k ≡ 0
-const-kind zero e = refl
-const-kind (suc k) e = absurd (true-false (passes-at (drop 1 kinds) refl k) (ap notConst e))
+const-kind k e = let word : wordOf (kindOf k) ≡ 0 = ap wordOf e in kind-word k (omega (arith, word)) ∙ word
 
 -- ---- every node, children first
 module _ (ns ps : List ℕ) (s : Sound ns ps) (α : Assignment) where

@@ -1,9 +1,8 @@
 -- "the lowest assignment failing that decides": what a search from assignment 0 on answers, for trees that are not the same.
-use Prim.Native.Nat.{ℕ, _+_, _<_}
+use Prim.Native.Nat.{ℕ, _<_}
 use mathlib.Core.Path.{_≡_, refl, ap}
 use mathlib.Core.Bool.{true, false, cond, not}
 use native.Mathlib.Omega.{arith}
-use native.Mathlib.Decide.{decLt}
 use lib.Dec.{eqb}
 use borrow.Author.Tests.{eq-eqb, ne-eqb}
 use Rattle.meaning.specs.declared.Answer.{Answer}
@@ -13,7 +12,7 @@ use Rattle.meaning.specs.Rules.Answers.{answer}
 use Rattle.meaning.specs.Rules.Search.{lowest}
 use Rattle.meaning.specs.Rules.Assignments.{inputs, drive}
 use Rattle.meaning.specs.Rules.Comparison.{agree, decides, assignments, decidingIndex, equivalent, decidedAt, compareTrees}
-use Rattle.meaning.specs.Laws.SearchLaws.{lowest-only}
+use Rattle.meaning.specs.Laws.SearchLaws.{NoneBelow, lowest-here, lowest-none}
 
 -- the answers of both trees at assignment i
 abbrev pub firstAnswer : Tree → Tree → ℕ → Answer
@@ -38,41 +37,16 @@ module _ (t u : Tree) where
   unfolding compareTrees searched
   other-trees e = rw e refl
 
-  -- ---- no assignment below i decides
-  abbrev pub NoneBelow : ℕ → Type 0
-  NoneBelow i = (j : ℕ) → j < i → decides (inputs t) t u j ≡ false
-
-  pub none-yet : NoneBelow 0
-  none-yet j h = absurd (omega arith)
-
-  pub none-next : (i : ℕ) → NoneBelow i → agree (firstAnswer t u i) (secondAnswer t u i) ≡ true → NoneBelow (i + 1)
-  none-next i none same j h = elim (decLt j i) [
-    | yes k ↦ none j k
-    | no k ↦ let e : j ≡ i = omega arith in rw (e, same) refl
-  ]
-
   -- ---- the search is over
-  pub searched-through : (total : ℕ) → total ≡ assignments t → NoneBelow total → equivalent ≡ searched t u
+  pub searched-through : (total : ℕ) → total ≡ assignments t → NoneBelow (decides (inputs t) t u) total → equivalent ≡ searched t u
   unfolding searched decidingIndex
-  searched-through total e none = rw (eq-eqb (decidingIndex t u) (assignments t) last) refl
-    where
-      last : decidingIndex t u ≡ assignments t
-      last = lowest-only (decides (inputs t) t u) (assignments t) (assignments t) (record {
-        after = omega arith;
-        within = omega arith;
-        passes = λ l. absurd (omega arith);
-        before = λ j a b. none j (omega arith);
-      })
+  searched-through total e none =
+      let last : decidingIndex t u ≡ assignments t = lowest-none (decides (inputs t) t u) (assignments t) (rw e at none) in
+      rw (eq-eqb (decidingIndex t u) (assignments t) last) refl
 
-  pub searched-to : (i : ℕ) → i < assignments t → NoneBelow i → agree (firstAnswer t u i) (secondAnswer t u i) ≡ false
+  pub searched-to : (i : ℕ) → i < assignments t → NoneBelow (decides (inputs t) t u) i → agree (firstAnswer t u i) (secondAnswer t u i) ≡ false
       → decidedAt i (firstAnswer t u i) (secondAnswer t u i) ≡ searched t u
   unfolding searched decidingIndex
-  searched-to i h none differ = rw (here, ne-eqb i (assignments t) (λ e. absurd (omega arith))) refl
-    where
-      here : decidingIndex t u ≡ i
-      here = lowest-only (decides (inputs t) t u) (assignments t) i (record {
-        after = omega arith;
-        within = omega arith;
-        passes = λ l. ap not differ;
-        before = λ j a b. none j b;
-      })
+  searched-to i h none differ =
+      let here : decidingIndex t u ≡ i = lowest-here (decides (inputs t) t u) (assignments t) i h none (ap not differ) in
+      rw (here, ne-eqb i (assignments t) (λ e. absurd (omega (arith, e, h)))) refl

@@ -1,6 +1,6 @@
--- The assignments in blocks: those of a block have one cleared self, so that it is answered once for all of them. A word `free`
--- has the unmarked variables below the root that are tried, a word `marked` the marked ones; a block is an x among the free and all
--- `x or y` with y among the marked. Variables that the root does not reach stay 0: they change no answer.
+-- The assignments in blocks: those of a block have one cleared self, so that it is answered once for all of them. A word
+-- `free` has the unmarked variables below the root that are tried, a word `marked` the marked ones; a block is an x among
+-- the free and all `x or y` with y among the marked. Variables that the root does not reach stay 0: they change no answer.
 use Prim.Native.Nat.{ℕ, _+_, _-_, _%_, _^_, _≤_, _<_, min, max}
 use mathlib.Core.Path.{_≡_, refl, sym, ap, ap₂, _∙_}
 use mathlib.Core.Bool.{Bool, true, false, cond, not}
@@ -20,7 +20,7 @@ use Rattle.meaning.specs.Rules.Separation.{isMarked, runCleared, crosses}
 use Rattle.meaning.specs.Claims.Terms.{asRun, asCleared}
 use Rattle.meaning.specs.Laws.WordLaws.{bit-lt, bit-above, bit-mod}
 use Rattle.bits.specs.Bit.{bit-and, bit-or, bit-not, bit-ext}
-use Rattle.subsets.specs.Among.{Among, among-bit, cut-among}
+use Rattle.subsets.specs.Among.{Among, among-le, among-bit, bits-among, cut-among}
 use Rattle.input_bits.specs.Seen.{toBit, IsMask}
 use Rattle.crossings.specs.Depends.{AgreeOn, same-answer}
 use Rattle.crossings.specs.Driven.{driven-at, undriven-at, cleared-is}
@@ -35,7 +35,8 @@ module _ (t : Tree) (n run : ℕ) where
     pub lower : bitOr base rest ≤ j
     pub here : crosses t n run (bitOr base rest) ≡ true
 
-  -- what a search of the blocks relies on: a block has one cleared self, and the lowest crossing below the limit is in a block
+  -- what a search of the blocks relies on: a block has one cleared self, and the lowest crossing below the limit is in a
+  -- block
   pub record Blocks (limit free marked : ℕ) : Type 0 where
     pub cleared : (x y : ℕ) → Among free x → Among marked y → asCleared t n run (bitOr x y) ≡ asRun t n run x
     pub all : (j : ℕ) → j < limit → crosses t n run j ≡ true → Lower free marked j
@@ -150,3 +151,28 @@ module _ (t : Tree) (n run : ℕ) where
           let there : bitAt inputs v ≡ 1 = mask v ∙ ap toBit o in
           omega (arith, free-bit v l, marked-bit v l, there, bit-lt run v);
     }
+
+  -- every crossing has one at or below it among the variables below the root
+  module _ (inputs : ℕ) (mask : IsMask t inputs) (inputsSmall : inputs < 2 ^ n) (marks : run < 2 ^ n) (few : n ≤ 64) where
+    abbrev free : ℕ
+    free = bitAnd inputs (ones 64 - run) % 2 ^ n
+
+    abbrev marked : ℕ
+    marked = bitAnd inputs run % 2 ^ n
+
+    whole : Parted n free marked
+    whole = parted inputs mask inputsSmall marks few n (omega arith)
+
+    among-inputs : (x y : ℕ) → Among free x → Among marked y → Among inputs (bitOr x y)
+    among-inputs x y a b =
+        bits-among n inputs (bitOr x y) inputsSmall
+        (or-lt n x y (omega (arith, among-le free x a, whole .freeSmall)) (omega (arith, among-le marked y b, whole .markedSmall)))
+        (λ v h.
+        let one : bitAt x v ≤ bitAt inputs v = omega (arith, among-bit free x v a, free-bit inputs mask inputsSmall marks few n (omega arith) v h) in
+        let two : bitAt y v ≤ bitAt inputs v = omega (arith, among-bit marked y v b, marked-bit inputs mask inputsSmall marks few n (omega arith) v h) in
+        omega (arith, bit-or x y v, one, two))
+
+    pub crossing-among : (j : ℕ) → j < 2 ^ n → crosses t n run j ≡ true → (k : ℕ) × (k ≤ inputs) × (crosses t n run k ≡ true)
+    crossing-among j l c =
+        let at = parted-blocks n free marked whole .all j l c in
+        (bitOr (at .base) (at .rest), among-le inputs (bitOr (at .base) (at .rest)) (among-inputs (at .base) (at .rest) (at .isBase) (at .isRest)), at .here)

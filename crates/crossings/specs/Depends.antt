@@ -1,16 +1,15 @@
 -- An answer depends on the variables that occur in its tree, and on nothing else of an assignment.
-use Prim.Native.Nat.{ℕ, zero, suc}
+use Prim.Native.Nat.{ℕ}
 use mathlib.Core.Path.{_≡_, refl, ap, ap₂, _∙_}
-use mathlib.Core.List.{List, [], _∷_}
-use mathlib.Core.Bool.{Bool, true, false, not, _&&_, or-true}
-use lib.ListN.{getD}
+use mathlib.Core.List.{List, _∷_}
+use mathlib.Core.Bool.{true, _&&_, or-true}
+use native.Mathlib.Omega.{arith}
 use lib.Dec.{eqb}
 use borrow.Author.Tests.{eq-eqb}
 use Rattle.meaning.specs.declared.Answer.{Answer}
 use Rattle.meaning.specs.Rules.Kinds.{Kind, Const, Program, DC, Var, Nor, Mux, And, Xor, Not, Lut, Bus, Reg, Arg, Cycle, Unknown, kindOf, variableWord}
 use Rattle.meaning.specs.Rules.Trees.{Tree, Forest, node, none, _◂_}
-use Rattle.meaning.specs.Rules.Refusals.{every}
-use Rattle.meaning.specs.Laws.BoolLaws.{true-false, and-left, and-right, not-is-true}
+use Rattle.meaning.specs.Laws.KindLaws.{wordOf, kind-word}
 use Rattle.meaning.specs.Rules.Answers.{Assignment, driven, step, answer, answers}
 use Rattle.meaning.specs.Rules.Assignments.{occurs, occursIn}
 
@@ -35,40 +34,11 @@ step-same α β Arg d xs h = refl
 step-same α β Cycle d xs h = refl
 step-same α β Unknown d xs h = refl
 
--- a node of kind Var is a variable's: of the kinds in their order no other is Var
-abbrev isVariable : Kind → Bool
-isVariable Const = false
-isVariable Program = false
-isVariable DC = false
-isVariable Var = true
-isVariable Nor = false
-isVariable Mux = false
-isVariable And = false
-isVariable Xor = false
-isVariable Not = false
-isVariable Lut = false
-isVariable Bus = false
-isVariable Reg = false
-isVariable Arg = false
-isVariable Cycle = false
-isVariable Unknown = false
-
-no-variable : (ks : List Kind) → every (λ k. not (isVariable k)) ks ≡ true → (i : ℕ) → isVariable (getD ks i Unknown) ≡ false
-no-variable [] h i = refl
-no-variable (k ∷ ks) h zero = not-is-true (isVariable k) (and-left (not (isVariable k)) (every (λ k. not (isVariable k)) ks) h)
-no-variable (k ∷ ks) h (suc i) = no-variable ks (and-right (not (isVariable k)) (every (λ k. not (isVariable k)) ks) h) i
-
-variable-word : (k : ℕ) → isVariable (kindOf k) ≡ true → k ≡ variableWord
-variable-word zero e = absurd (true-false e refl)
-variable-word (suc zero) e = absurd (true-false e refl)
-variable-word (suc (suc zero)) e = absurd (true-false e refl)
-variable-word (suc (suc (suc zero))) e = refl
-variable-word (suc (suc (suc (suc k)))) e =
-    absurd (true-false e (no-variable (Nor ∷ Mux ∷ And ∷ Xor ∷ Not ∷ Lut ∷ Bus ∷ Reg ∷ Reg ∷ Reg ∷ Reg ∷ Arg ∷ Cycle ∷ []) refl k))
-
 -- a variable occurs in itself
 own-variable : (k d : ℕ) (cs : Forest) → kindOf k ≡ Var → occurs d (node k d cs) ≡ true
-own-variable k d cs e = rw (eq-eqb k variableWord (variable-word k (ap isVariable e)), eq-eqb d d refl) refl
+own-variable k d cs e =
+    let word : wordOf (kindOf k) ≡ variableWord = ap wordOf e in
+    rw (eq-eqb k variableWord (kind-word k (omega (arith, word)) ∙ word), eq-eqb d d refl) refl
 
 mutual
   pub same-answer : (t : Tree) (α β : Assignment) → AgreeOn t α β → answer α t ≡ answer β t

@@ -1,5 +1,5 @@
--- The lowest crossing so far, as the search goes block by block: what is below it and was gone through does not cross, and it
--- crosses itself where it is below the limit.
+-- The lowest crossing so far, as the search goes block by block: what is below it and was gone through does not cross, and
+-- it crosses itself where it is below the limit.
 use Prim.Native.Nat.{ℕ, _≤_, _<_}
 use mathlib.Core.Path.{_≡_, refl, sym, ap, subst, _∙_}
 use mathlib.Core.Bool.{Bool, true, false, cond, not, _&&_}

@@ -1,5 +1,5 @@
--- Stage after stage: the assignments of the first s variables come before all others, so a crossing among them is the lowest, and
--- where there is none the next stage has more variables.
+-- Stage after stage: the assignments of the first s variables come before all others, so a crossing among them is the
+-- lowest, and where there is none the next stage has more variables.
 use Prim.Native.Nat.{ℕ, zero, _^_, _≤_, _<_}
 use mathlib.Core.Path.{_≡_, refl, sym, ap, _∙_}
 use mathlib.Core.Bool.{Bool, true, false, cond, not}
@@ -12,10 +12,12 @@ use Rattle.meaning.specs.Rules.Search.{lowest}
 use Rattle.meaning.specs.Rules.Comparison.{sameAnswer}
 use Rattle.meaning.specs.Rules.Separation.{isMarked, crosses, crossingIndex}
 use Rattle.meaning.specs.Claims.Terms.{asRun}
-use Rattle.meaning.specs.Laws.SearchLaws.{lowest-is, lowest-only}
+use Rattle.meaning.specs.Laws.BoolLaws.{true-false, not-true}
+use Rattle.meaning.specs.Laws.SearchLaws.{lowest-is, lowest-only, lowest-none}
 use Rattle.meaning.specs.Laws.AssignmentLaws.{sameAnswer-refl}
-use Rattle.input_bits.specs.Seen.{bit-none}
+use Rattle.input_bits.specs.Seen.{bit-none, IsMask}
 use Rattle.crossings.specs.Driven.{cleared-is}
+use Rattle.crossings.specs.Blocks.{crossing-among}
 
 module _ (t : Tree) (n run : ℕ) where
   -- no assignment of the first s variables crosses
@@ -58,6 +60,12 @@ module _ (t : Tree) (n run : ℕ) where
     pub stage-none : (i : ℕ) → i ≡ lowest (crosses t n run) (2 ^ s) → (i < 2 ^ s → ⊥) → NoneOf s
     stage-none i e h = omega (arith, e, h, lowest-is (crosses t n run) (2 ^ s) .within)
 
-  pub none-crosses : (s : ℕ) → s ≡ n → NoneOf s → 2 ^ n ≡ crossingIndex t n run
-  unfolding crossingIndex
-  none-crosses s e none = sym (ap (λ (k : ℕ). lowest (crosses t n run) (2 ^ k)) (sym e) ∙ none ∙ ap (λ (k : ℕ). 2 ^ k) e)
+  -- the last stage has all variables below the root, so there is no crossing at all
+  module _ (inputs : ℕ) (mask : IsMask t inputs) (inputsSmall : inputs < 2 ^ n) (marks : run < 2 ^ n) (few : n ≤ 64) where
+    pub none-crosses : (s : ℕ) → inputs < 2 ^ s → NoneOf s → 2 ^ n ≡ crossingIndex t n run
+    unfolding crossingIndex
+    none-crosses s all none =
+        sym (lowest-none (crosses t n run) (2 ^ n) (λ j l.
+        not-true (crosses t n run j) (λ c.
+        let (k, below, here) = crossing-among t n run inputs mask inputsSmall marks few j l c in
+        true-false here (lowest-is (crosses t n run) (2 ^ s) .before k (omega arith) (omega (arith, below, all, none))))))

@@ -1,6 +1,6 @@
 // The search block by block. A block is an assignment with its run bits clear, the base, and all that differ from it in
-// run bits alone: the base is the cleared self of each, so it is answered once. The blocks are gone through in the order
-// of their bases and not in that of the assignments, so the lowest so far is kept, and nothing above it is tried.
+// run bits alone: the base is the cleared self of each, so it is answered once. The blocks are gone through in the
+// order of their bases and not in that of the assignments, so the lowest so far is kept, and nothing above it is tried.
 use super::trial::answer_under;
 use super::trial::lower_of;
 use subsets::next_among;
@@ -12,8 +12,8 @@ ghost use Rattle.rows.specs.Rows.{Prepared};
 ghost use Rattle.inputs.specs.Driving.{Drivable};
 ghost use Rattle.crossings.specs.Lowest.{Lowered, LoweredTo, NoneInBlock, NoneTo};
 
-// The lowest assignment below `limit` that differs from its base, or `limit`. `free` has the variables that bases drive,
-// `marked` the run signals.
+// The lowest assignment below `limit` that differs from its base, or `limit`. `free` has the variables that bases
+// drive, `marked` the run signals.
 pub(crate) fn lowest_of_blocks(
     nodes: &[u32],
     pool: &[u32],

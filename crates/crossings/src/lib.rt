@@ -5,14 +5,16 @@
 // - an assignment whose run bits are clear is its own cleared self, and is not compared with itself;
 // - the assignments that differ in run bits alone are a block, and their cleared self is answered once (specs/Blocks);
 // - and so that a low crossing is found soon whatever the marks are, it goes by stages, each of a few variables more
-//   than the last (specs/Stages).
+//   than the one before (specs/Stages).
 // A caller has a list accepted and number 11 behind it, and calls `lowest_crossing`; 2^n says that there is none.
 mod blocks;
+mod stages;
 pub mod trial;
 
 use bits::low_bits;
 use bits::power_of_two;
 use blocks::lowest_of_blocks;
+use stages::next_stage;
 ghost use mathlib.Core.Path.{_≡_};
 ghost use Prim.Native.Nat.{_^_, _<_, _≤_};
 ghost use lib.ListN.{length};
@@ -24,11 +26,8 @@ ghost use Rattle.inputs.specs.Driving.{Drivable};
 ghost use Rattle.input_bits.specs.Seen.{IsMask};
 ghost use Rattle.crossings.specs.Searching.{Searchable};
 
-// So many more variables in each stage: all stages before the last together have a fifteenth of its assignments.
-const STAGE: usize = 4;
-
-// Inner: the number of the lowest crossing of the n variables, or 2^n. `inputs` has the variables below the root, `marks`
-// the run signals.
+// Inner: the number of the lowest crossing of the n variables, or 2^n. `inputs` has the variables below the root,
+// `marks` the run signals.
 pub fn lowest_crossing(
     nodes: &[u32],
     pool: &[u32],
@@ -47,25 +46,14 @@ pub fn lowest_crossing(
 {
     let n = variables.len();
     let mut places: usize = 0;
-    while places < n {
-        places = next_stage(places, n);
+    while power_of_two(places as u64) <= inputs {
+        places = next_stage(inputs, places, n);
         let found = lowest_of_stage(nodes, pool, variables, inputs, marks, places, bytes, work);
         if found < power_of_two(places as u64) {
             return found;
         }
     }
     power_of_two(n as u64)
-}
-
-// A few variables more, at most n.
-fn next_stage(places: usize, n: usize) -> usize
-    requires { ⌜ places < n ⌝ }
-    ensures { λ r. ⌜ (places < r) × (r ≤ n) ⌝ }
-{
-    if n - places < STAGE {
-        return n;
-    }
-    places + STAGE
 }
 
 // The lowest crossing of the first `places` variables, or 2^places.

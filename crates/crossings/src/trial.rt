@@ -12,7 +12,7 @@ ghost use Rattle.rows.specs.Rows.{Prepared};
 ghost use Rattle.inputs.specs.Driving.{Drivable};
 ghost use Rattle.crossings.specs.Lowest.{answerAt, lowerOf};
 
-// The root's answer at assignment `index` of the variables 0, 1, ...
+// Inner: the root's answer at assignment `index` of the variables 0, 1, ...
 pub fn answer_under(
     nodes: &[u32],
     pool: &[u32],

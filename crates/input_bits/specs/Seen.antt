@@ -1,5 +1,5 @@
--- The variables below a root as bits of a word: what a walk over the nodes has seen of them, and that at its end bit v is there
--- exactly if variable v occurs below the root.
+-- The variables below a root as bits of a word: what a walk over the nodes has seen of them, and that at its end bit v is
+-- there exactly if variable v occurs below the root.
 use Prim.Native.Nat.{ℕ, zero, suc, _+_, _-_, _*_, _%_, _^_, _<_, max}
 use mathlib.Core.Path.{_≡_, refl, sym, ap, ap₂, _∙_}
 use mathlib.Core.Logic.{⊎-elim}

@@ -1,5 +1,5 @@
-// The variables below a root as bits of a word (document 01, "Comparison and separation": "bit v drives variable v"). The
-// plain meaning is meaning's Rules/Assignments, `occurs`, bit by bit (specs/Seen, `IsMask`). A caller has a list
+// The variables below a root as bits of a word (document 01, "Comparison and separation": "bit v drives variable v").
+// The plain meaning is meaning's Rules/Assignments, `occurs`, bit by bit (specs/Seen, `IsMask`). A caller has a list
 // accepted, its marks in the work space, and number 11 behind it, so that each variable has a bit.
 use bits::power_of_two;
 use columns::MARK;

@@ -88,8 +88,8 @@ fn list_alone(name: &[u8], text: &[u8], nodes: &mut [u32], pool: &mut [u32]) -> 
     }
 }
 
-// All that a file holds, at the start of what is lent. One read more than fills it tells the file's end from a read that
-// failed and from a file that goes on.
+// All that a file holds, at the start of what is lent. One read more than fills it tells the file's end from a read
+// that failed and from a file that goes on.
 pub fn read_text(fd: i32, name: &[u8], text: &mut [u8]) -> Text
     ensures { λ r. ⌜ texts.Lendable (now (text .exit)) r ⌝ }
 {

@@ -1,4 +1,5 @@
--- The variables below a root, as a user is shown them; a list that a number from 1 to 8 refuses has none, and is not searched.
+-- The variables below a root, as a user is shown them; a list that a number from 1 to 8 refuses has none, and is not
+-- searched.
 use Prim.Native.Nat.{ℕ}
 use mathlib.Core.Path.{_≡_}
 use mathlib.Core.List.{List, []}

@@ -36,8 +36,8 @@ pub(crate) struct Case {
     pub(crate) expected: Expected,
 }
 
-// What stands in a text from an offset on: a case's row, with the offset behind it; nothing but blanks; or a fault, with
-// its offset.
+// What stands in a text from an offset on: a case's row, with the offset behind it; nothing but blanks; or a fault,
+// with its offset.
 pub(crate) enum Header {
     Given { case: Case, next: usize },
     End,

@@ -1,5 +1,5 @@
-// A result with two answers as ten words (include/panel.h): what a comparison and a separation have in common. The plain
-// meaning is specs/Words, `resultWords`.
+// A result with two answers as ten words (include/panel.h): what a comparison and a separation have in common. The
+// plain meaning is specs/Words, `resultWords`.
 use answer_words::words_of;
 use meaning::Answer;
 use meaning::Refusal;

@@ -1,6 +1,6 @@
 // The root's answer under one assignment (document 01, "Answers of a node"). The plain meaning is meaning's `answer` of
-// the root; a caller has a list accepted, with its marks and shapes in the work space (rows, specs/Rows, `Prepared`), and
-// calls `root_under` for each assignment anew: it stays prepared (pass, specs/Written, `still-prepared`).
+// the root; a caller has a list accepted, with its marks and shapes in the work space (rows, specs/Rows, `Prepared`),
+// and calls `root_under` for each assignment anew: it stays prepared (pass, specs/Written, `still-prepared`).
 use meaning::Answer;
 use nodes::node_count;
 use pass::pass;

@@ -18,8 +18,8 @@ module _ (ns ps : List ℕ) (n run : ℕ) (work left : List ℕ) (s : Separation
   not-refused : separate ns ps n run work .answer .refusal .number ≡ 0
   not-refused = ap (λ (x : Separation). x .refusal .number) (sym answer) ∙ done
 
-  -- "Separate exactly when any two assignments that agree on all unmarked variables give the root the same answer, value or named
-  -- failure"
+  -- "Separate exactly when any two assignments that agree on all unmarked variables give the root the same answer, value or
+  -- named failure"
   pub answer-separate : (s .judgement ≡ Separate) ↔ NoCrossing (rootOf ns ps) n run
   answer-separate =
       subst (λ (x : Separation). (x .judgement ≡ Separate) ↔ NoCrossing (rootOf ns ps) n run) (sym answer)

@@ -3,23 +3,20 @@ use Prim.Native.Nat.{ℕ, _-_, _^_, _≤_, _<_, min}
 use mathlib.Core.Path.{_≡_, refl, sym, ap, _∙_}
 use mathlib.Core.Logic.{_≢_}
 use mathlib.Core.List.{List}
-use mathlib.Core.Bool.{Bool, true, false, cond, _&&_}
+use mathlib.Core.Bool.{Bool, true, false, cond}
 use native.Mathlib.Omega.{arith}
 use lib.ListN.{length, getD, take}
 use lib.Seq.{length-take-le}
-use lib.Dec.{ltb, leb}
 use lib.Bits.{bitAnd}
 use lib.Pow.{pow-mono}
-use borrow.Author.Tests.{eq-eqb, ne-eqb, leb-true, eqb-true, eqb-false}
+use borrow.Author.Tests.{eq-eqb, ne-eqb, eqb-true, eqb-false}
 use Rattle.meaning.specs.declared.Answer.{Answer}
 use Rattle.meaning.specs.Rules.Limits.{mostInputs, variableCount}
 use Rattle.meaning.specs.Rules.Words.{bitAt, ones}
 use Rattle.meaning.specs.Rules.Trees.{Tree, rootOf}
 use Rattle.meaning.specs.Rules.Answers.{Assignment, answer}
 use Rattle.meaning.specs.Rules.Assignments.{upto, drive}
-use Rattle.meaning.specs.Rules.Separation.{isMarked, runCleared, variablesBelow, inBounds, crossingIndex, separated, crossingAt, separateTree}
-use Rattle.meaning.specs.Laws.BoolLaws.{and-left, and-right}
-use Rattle.meaning.specs.Laws.RefusalLaws.{marks-below}
+use Rattle.meaning.specs.Rules.Separation.{isMarked, runCleared, crossingIndex, separated, crossingAt, separateTree}
 use Rattle.meaning.specs.Laws.WordLaws.{bit-lt}
 use Rattle.meaning.specs.Laws.AssignmentLaws.{upto-length}
 use Rattle.bits.specs.Bit.{bit-and, bit-not}
@@ -30,21 +27,6 @@ use Rattle.input_bits.specs.Seen.{IsMask}
 use Rattle.crossings.specs.Driven.{cleared-is}
 use Rattle.crossings.specs.Lowest.{answerAt}
 use Rattle.crossings.specs.Searching.{Searchable}
-
--- ---- what number 11 leaves
-module _ (ns : List ℕ) (n run : ℕ) (bounds : inBounds ns n run ≡ true) where
-  first-two : (leb n mostInputs && variablesBelow ns n) ≡ true
-  unfolding inBounds
-  first-two = and-left (leb n mostInputs && variablesBelow ns n) (ltb run (2 ^ n)) bounds
-
-  pub bounds-few : n ≤ mostInputs
-  bounds-few = leb-true n mostInputs (and-left (leb n mostInputs) (variablesBelow ns n) first-two)
-
-  pub bounds-variables : variablesBelow ns n ≡ true
-  bounds-variables = and-right (leb n mostInputs) (variablesBelow ns n) first-two
-
-  pub bounds-marks : run < 2 ^ n
-  bounds-marks = marks-below ns n run bounds
 
 -- ---- the judgement
 module _ (t : Tree) (n run : ℕ) where

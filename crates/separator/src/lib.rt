@@ -1,8 +1,8 @@
 // Separation (document 01, "Comparison and separation", "Order"; added): demand 3, "The stop path borrows nothing from
 // the run path". The plain meaning is meaning's Rules/Calls, `separate`, over Rules/Separation: the answer and the work
 // space of a call, for any words at all; what a user reads from it is Claims/Demands, `demand-3-separate` and its
-// neighbours. A user calls `separate`, whose contract is that equation. The work is done by `verifier::sound` (numbers 3
-// to 8), `bounds::bounded` (number 11) and `crossings::lowest_crossing` (the search); here stand the order of the
+// neighbours. A user calls `separate`, whose contract is that equation. The work is done by `verifier::sound` (numbers
+// 3 to 8), `bounds::bounded` (number 11) and `crossings::lowest_crossing` (the search); here stand the order of the
 // refusals and what a crossing carries.
 mod numbered;
 
@@ -37,8 +37,9 @@ ghost use Rattle.inputs.specs.Driving.{Drivable};
 ghost use Rattle.crossings.specs.Searching.{Searchable};
 ghost use Rattle.separator.specs.Outcome.{restAnswer};
 
-// Numbers 1, 2, 10, 3 to 8 and 11, in that order, and then the judgement, for any input: n declared variables, and marks
-// on the run signals among them, bit v for variable v. The work space is untouched after 1, 2 and 10, and else all zeros.
+// Numbers 1, 2, 10, 3 to 8 and 11, in that order, and then the judgement, for any input: n declared variables, and
+// marks on the run signals among them, bit v for variable v. The work space is untouched after 1, 2 and 10, and else
+// all zeros.
 pub fn separate(nodes: &[u32], pool: &[u32], n: u32, marks: u32, work: &mut [u64]) -> Separation
     ensures { λ r. ⌜ calls.judged r (now (work .exit)) ≡ calls.separate (now (nodes .entry)) (now (pool .entry)) n marks (now (work .entry)) ⌝ }
 {

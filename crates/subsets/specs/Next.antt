@@ -1,5 +1,6 @@
--- The next word among those of a mask: minus what x lacks of the mask, cut to the mask. By induction on the width: where the lowest bit
--- of the mask is there and x lacks it, it is added; else the lowest bit goes out and the next is that of the halves.
+-- The next word among those of a mask: minus what x lacks of the mask, cut to the mask. By induction on the width: where
+-- the lowest bit of the mask is there and x lacks it, it is added; else the lowest bit goes out and the next is that of the
+-- halves.
 use Prim.Native.Nat.{ℕ, zero, suc, _+_, _-_, _*_, _/_, _%_, _^_, _≤_, _<_, min}
 use mathlib.Core.Path.{_≡_, sym, subst}
 use native.Mathlib.Nat.{pow-suc}

@@ -5,8 +5,8 @@ ghost use Prim.Native.Nat.{_<_};
 ghost use Rattle.subsets.specs.Among.{Among};
 ghost use Rattle.subsets.specs.Next.{IsNext};
 
-// Inner: the lowest word above x among those of the mask. Taking x from the mask leaves the bits that are still to come; minus
-// that is a word which, cut to the mask, is x with one added among the mask's bits alone (specs/Next).
+// Inner: the lowest word above x among those of the mask. Taking x from the mask leaves the bits that are still to
+// come; minus that is a word which, cut to the mask, is x with one added among the mask's bits alone (specs/Next).
 pub fn next_among(mask: u64, x: u64) -> u64
     requires { ⌜ Among mask x ⌝ }
     requires { ⌜ x < mask ⌝ }

@@ -1,5 +1,7 @@
 -- `variables_below` meets its contract: no node below the loop's is outside, so the first that is decides.
-use Rattle.bounds.specs.Bounds.{NoneOutside, none-yet, none-next, some-outside, none-outside}
+use Rattle.meaning.specs.Rules.Separation.{outside}
+use Rattle.meaning.specs.Laws.SearchLaws.{NoneBelow, none-yet, none-next}
+use Rattle.bounds.specs.Bounds.{some-outside, none-outside}
 use Rattle.meaning.specs.Rules.Trees.{nodeCount}
 use native.Mathlib.Omega.{arith}
 use mathlib.Core.List.{List}
@@ -14,7 +16,7 @@ use Rattle.bounds.proofs.is_outside.Reads as is-outside-reads
 use Rattle.nodes.proofs.node_count.Reads as node-count-reads
 
 abbrev Inv-loop : tie.InvT-loop
-Inv-loop nodes n count i₀ i = (i ≤ count) × (count ≡ nodeCount nodes) × NoneOutside nodes n i
+Inv-loop nodes n count i₀ i = (i ≤ count) × (count ≡ nodeCount nodes) × NoneBelow (outside nodes n) i
 
 abbrev μ-loop : tie.MeasureT-loop
 μ-loop nodes n count i₀ i = count - i
@@ -25,7 +27,7 @@ node-count-requires c κs = search needs
 loop-holds : tie.Need-loop-holds Inv-loop μ-loop
 loop-holds c =
     let s = c .before .before in
-    (omega arith, c .node-count .ensures, none-yet (s .args .nodes .now) (s .args .n))
+    (omega arith, c .node-count .ensures, none-yet (outside (s .args .nodes .now) (s .args .n)))
 
 is-outside-requires : tie.Need-is-outside-requires Inv-loop μ-loop
 is-outside-requires c κs = omega (arith, c .loop-test .taken, c .before .loop .inv .1)
@@ -52,7 +54,7 @@ loop-again c =
     let ns : List ℕ = s .args .nodes .now in
     let n : ℕ = s .args .n in
     let i : ℕ = l .i in
-    (omega (arith, c .before .before .loop-test .taken), l .inv .1, none-next ns n i (l .inv .2) (sym (c .before .is-outside .ensures) ∙ c .if1 .left))
+    (omega (arith, c .before .before .loop-test .taken), l .inv .1, none-next (outside ns n) i (l .inv .2) (sym (c .before .is-outside .ensures) ∙ c .if1 .left))
 
 returns-2 : tie.Need-returns-2 Inv-loop μ-loop
 returns-2 c =

@@ -1,6 +1,6 @@
 -- `input_bit` meets its contract: another kind, an unreached node, or the bit of the variable.
 use Rattle.input_bits.specs.Seen.{other-kind, unreached, reached}
-use Rattle.bounds.specs.Bounds.{variable-below}
+use Rattle.meaning.specs.Laws.RefusalLaws.{variable-below}
 use Rattle.meaning.specs.Rules.Reach.{markOf}
 use Rattle.meaning.specs.Rules.Trees.{kindAt, firstAt}
 use Rattle.meaning.specs.Rules.Kinds.{variableWord}

@@ -3,17 +3,15 @@
 use Prim.Native.Nat.{ℕ, _%_, _^_, _≤_, _<_}
 use mathlib.Core.Path.{_≡_, sym, ap, _∙_}
 use mathlib.Core.List.{List}
-use mathlib.Core.Bool.{Bool, true, false, _&&_}
+use mathlib.Core.Bool.{Bool, true, _&&_}
 use native.Mathlib.Omega.{arith}
 use lib.ListN.{length}
 use lib.Dec.{ltb, leb}
-use borrow.Author.Tests.{leb-true, leb-false, le-leb, eqb-true, eq-eqb, ltb-true, lt-ltb}
+use borrow.Author.Tests.{le-leb, eq-eqb, ltb-true, lt-ltb}
 use Rattle.meaning.specs.Laws.SeparationLaws.{judged-done, judged-tree, alike-separation}
 use Rattle.meaning.specs.Laws.BoolLaws.{and-left, and-right, and-both}
-use Rattle.meaning.specs.Laws.SearchLaws.{lowest-is}
 use Rattle.meaning.specs.Rules.Limits.{mostInputs, mostNodes, mostPool, wordsPerNode}
-use Rattle.meaning.specs.Rules.Search.{lowest}
-use Rattle.meaning.specs.Rules.Trees.{Tree, nodeCount, kindAt, firstAt, rootOf}
+use Rattle.meaning.specs.Rules.Trees.{Tree, nodeCount, kindAt, rootOf}
 use Rattle.meaning.specs.Rules.Answers.{Assignment, answer}
 use Rattle.meaning.specs.Rules.Refusals.{isDone, _then_, require}
 use Rattle.meaning.specs.Rules.Assignments.{upto, Assigns}
@@ -23,9 +21,9 @@ use Rattle.meaning.specs.Rules.Evaluable.{evaluability, shapeFault, soun
 use Rattle.meaning.specs.Rules.Canonical.{gateFault, canonicalNodes, canonicalPool, gates}
 use Rattle.meaning.specs.Rules.Folding.{nf}
 use Rattle.meaning.specs.Rules.Reach.{reachable, markOf}
-use Rattle.meaning.specs.Rules.Separation.{outside, variablesBelow, inBounds, separateTree}
+use Rattle.meaning.specs.Rules.Separation.{inBounds, separateTree}
 use Rattle.meaning.specs.Rules.Calls.{separateRefusal, separation, canonicalRefusal, fitsLists}
-use Rattle.meaning.specs.Laws.RefusalLaws.{then-first, then-rest, require-done, marks-below}
+use Rattle.meaning.specs.Laws.RefusalLaws.{then-first, then-rest, require-done, bounds-few, bounds-variables, marks-below, variable-below}
 use Rattle.meaning.specs.Laws.NfLaws.{Made, nf-answer}
 use Rattle.meaning.specs.Rules.Kinds.{isPlain, kindOf}
 use Rattle.meaning.specs.Laws.RootLaws.{Accepted, root-made}
@@ -53,8 +51,7 @@ module _ (ns ps : List ℕ) (n run work work₂ outNodes outPool work₃ : ℕ)
     in-bounds = require-done (inBounds ns n run) 10 (then-rest (sound ns ps) _ after-work)
 
     few : n ≤ mostInputs
-    unfolding inBounds
-    few = leb-true n mostInputs (and-left (leb n mostInputs) (variablesBelow ns n) (and-left (leb n mostInputs && variablesBelow ns n) (ltb run (2 ^ n)) in-bounds))
+    few = bounds-few ns n run in-bounds
 
     canonical-done : isDone (canonicalRefusal ns ps work₂ outNodes outPool) ≡ true
     canonical-done = eq-eqb _ 0 canonicalised
@@ -75,17 +72,6 @@ module _ (ns ps : List ℕ) (n run work work₂ outNodes outPool work₃ : ℕ)
     unfolding sound
     all-laid = then-first (layout ns ps) _ is-sound
 
-    variables : variablesBelow ns n ≡ true
-    unfolding inBounds
-    variables = and-right (leb n mostInputs) (variablesBelow ns n) (and-left (leb n mostInputs && variablesBelow ns n) (ltb run (2 ^ n)) in-bounds)
-
-    variable-below : (i : ℕ) → i < nodeCount ns → kindAt ns i ≡ 3 → firstAt ns i < n
-    unfolding variablesBelow
-    variable-below i l e =
-        let none : lowest (outside ns n) (nodeCount ns) ≡ nodeCount ns = eqb-true (lowest (outside ns n) (nodeCount ns)) (nodeCount ns) variables in
-        let free : outside ns n i ≡ false = lowest-is (outside ns n) (nodeCount ns) .before i (omega arith) (omega (arith, none)) in
-        leb-false n (firstAt ns i) (rw (eq-eqb (kindAt ns i) 3 e) at free)
-
     tests : Accepted ns ps (λ v. v < n)
     unfolding layout verification evaluability gates
     tests = record {
@@ -93,7 +79,7 @@ module _ (ns ps : List ℕ) (n run work work₂ outNodes outPool work₃ : ℕ)
       verified = no-fault (nodeCount ns) (verifyFault ns ps) (then-first (verification ns ps) _ after-layout);
       shaped = no-fault (nodeCount ns) (shapeFault ns ps) (then-rest (require (ltb 0 (nodeCount ns)) 7) (evaluability ns ps) after-verification);
       gated = no-fault (nodeCount ns) (gateFault ns ps) (then-first (gates ns ps) _ after-sound);
-      bounded = variable-below;
+      bounded = variable-below ns n (bounds-variables ns n run in-bounds);
       plain = λ i l m. plain i l (lt-ltb 0 (markOf ns ps i) m);
     }
 

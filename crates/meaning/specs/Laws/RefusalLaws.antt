@@ -1,17 +1,21 @@
 -- A chain of tests that is done has every test done.
-use Prim.Native.Nat.{ℕ, suc, _^_, _<_}
+use Prim.Native.Nat.{ℕ, suc, _^_, _≤_, _<_}
 use mathlib.Core.Logic.{_⊎_, _≢_, inl, inr}
 use mathlib.Core.Path.{_∙_, _≡_, refl, ap, sym}
 use mathlib.Core.List.{List}
 use mathlib.Core.Bool.{Bool, true, false, _&&_, cond}
 use native.Mathlib.Omega.{arith}
 use lib.Dec.{ltb, leb}
-use borrow.Author.Tests.{eqb-true, ltb-true, eqb-false, ne-eqb}
+use borrow.Author.Tests.{eqb-true, ltb-true, leb-true, leb-false, eqb-false, eq-eqb, ne-eqb}
 use Rattle.meaning.specs.declared.Refusal.{Refusal}
-use Rattle.meaning.specs.Laws.BoolLaws.{and-right}
+use Rattle.meaning.specs.Laws.BoolLaws.{and-left, and-right}
+use Rattle.meaning.specs.Laws.SearchLaws.{lowest-is}
+use Rattle.meaning.specs.Rules.Kinds.{variableWord}
+use Rattle.meaning.specs.Rules.Trees.{nodeCount, kindAt, firstAt}
+use Rattle.meaning.specs.Rules.Search.{lowest}
 use Rattle.meaning.specs.Rules.Limits.{mostInputs}
 use Rattle.meaning.specs.Rules.Lent.{outputAfter, cleared}
-use Rattle.meaning.specs.Rules.Separation.{variablesBelow, inBounds}
+use Rattle.meaning.specs.Rules.Separation.{outside, variablesBelow, inBounds}
 use Rattle.meaning.specs.Rules.Refusals.{isDone, _then_, require, leavesWork, workAfter}
 use lib.ListN.{length, replicate}
 
@@ -29,10 +33,28 @@ pub require-done : (test : Bool) (number : ℕ) → isDone (require test (suc nu
 require-done true number h = refl
 require-done false number h = absurd (omega (arith, eqb-true (suc number) 0 h))
 
--- number 11 passed: every mark is below bit n
-pub marks-below : (ns : List ℕ) (n run : ℕ) → inBounds ns n run ≡ true → run < 2 ^ n
-unfolding inBounds
-marks-below ns n run h = ltb-true run (2 ^ n) (and-right (leb n mostInputs && variablesBelow ns n) (ltb run (2 ^ n)) h)
+-- number 11 passed: n is at most 30, every variable is below n, and every mark below bit n
+module _ (ns : List ℕ) (n run : ℕ) (h : inBounds ns n run ≡ true) where
+  n-and-variables : (leb n mostInputs && variablesBelow ns n) ≡ true
+  unfolding inBounds
+  n-and-variables = and-left (leb n mostInputs && variablesBelow ns n) (ltb run (2 ^ n)) h
+
+  pub bounds-few : n ≤ mostInputs
+  bounds-few = leb-true n mostInputs (and-left (leb n mostInputs) (variablesBelow ns n) n-and-variables)
+
+  pub bounds-variables : variablesBelow ns n ≡ true
+  bounds-variables = and-right (leb n mostInputs) (variablesBelow ns n) n-and-variables
+
+  pub marks-below : run < 2 ^ n
+  unfolding inBounds
+  marks-below = ltb-true run (2 ^ n) (and-right (leb n mostInputs && variablesBelow ns n) (ltb run (2 ^ n)) h)
+
+pub variable-below : (ns : List ℕ) (n : ℕ) → variablesBelow ns n ≡ true → (i : ℕ) → i < nodeCount ns → kindAt ns i ≡ variableWord → firstAt ns i < n
+unfolding variablesBelow
+variable-below ns n all i h kind =
+    let none : lowest (outside ns n) (nodeCount ns) ≡ nodeCount ns = eqb-true (lowest (outside ns n) (nodeCount ns)) (nodeCount ns) all in
+    let free : outside ns n i ≡ false = lowest-is (outside ns n) (nodeCount ns) .before i (omega arith) (omega (arith, none)) in
+    leb-false n (firstAt ns i) (rw (eq-eqb (kindAt ns i) variableWord kind) at free)
 
 pub then-both : (r s : Refusal) → isDone r ≡ true → isDone s ≡ true → isDone (r then s) ≡ true
 then-both r s h k = rw h k

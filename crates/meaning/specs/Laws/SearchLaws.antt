@@ -55,3 +55,23 @@ module _ (p : ℕ → Bool) where
     | yes h ↦ absurd (not-above 0 n i (lowest p n) a (lowest-is n) h)
     | no h ↦ elim (decLt (lowest p n) i) [ yes k ↦ absurd (not-above 0 n (lowest p n) i (lowest-is n) a k) | no k ↦ omega arith ]
   ]
+
+  -- ---- as a search goes: nothing below i passes
+  abbrev pub NoneBelow : ℕ → Type 0
+  NoneBelow i = (j : ℕ) → j < i → p j ≡ false
+
+  pub none-yet : NoneBelow 0
+  none-yet j h = absurd (omega arith)
+
+  pub none-next : (i : ℕ) → NoneBelow i → p i ≡ false → NoneBelow (i + 1)
+  none-next i none here j h = elim (decLt j i) [
+    | yes k ↦ none j k
+    | no k ↦ subst (λ (x : ℕ). p x ≡ false) (omega arith) here
+  ]
+
+  -- it is over where one passes, or where all are looked at
+  pub lowest-here : (n i : ℕ) → i < n → NoneBelow i → p i ≡ true → lowest p n ≡ i
+  lowest-here n i h none here = lowest-only n i (record { after = omega arith; within = omega arith; passes = λ l. here; before = λ j a b. none j b })
+
+  pub lowest-none : (n : ℕ) → NoneBelow n → lowest p n ≡ n
+  lowest-none n none = lowest-only n n (record { after = omega arith; within = omega arith; passes = λ l. absurd (omega arith); before = λ j a b. none j b })

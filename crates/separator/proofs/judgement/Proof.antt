@@ -1,5 +1,6 @@
 -- `judgement` meets its contract: what number 11 leaves is what the search asks.
-use Rattle.separator.specs.Judged.{bounds-few, bounds-variables, bounds-marks, named-length, searchable, drivable}
+use Rattle.separator.specs.Judged.{named-length, searchable, drivable}
+use Rattle.meaning.specs.Laws.RefusalLaws.{bounds-few, bounds-variables, marks-below}
 use Rattle.inputs.specs.Room.{blanks-length}
 use Rattle.meaning.specs.Rules.Separation.{inBounds, separateTree}
 use Rattle.meaning.specs.Rules.Assignments.{upto}
@@ -98,7 +99,7 @@ searched-requires c κs =
     let vs : List ℕ = c .before .before .before .before .before .before .before .name-variables .last .1 .0 in
     let held : n ≤ length vs = omega (arith, c .before .before .before .before .before .before .before .name-variables .kept .1 .0, size, few) in
     let named : take n vs ≡ upto n = c .before .before .before .before .before .before .before .name-variables .ensures in
-    (searchable ns ps vs n (c .before .before .before .before .input-mask .result) marks held named (omega (arith, few)) (c .before .before .before .before .input-mask .ensures .0) (c .before .before .before .before .input-mask .ensures .1) (bounds-marks ns n marks bounds), (s .pre .0, drivable ns ps vs n (c .before .before .before .before .input-mask .result) marks held named few (c .before .before .before .undriven .result) (c .before .before .before .undriven .ensures)))
+    (searchable ns ps vs n (c .before .before .before .before .input-mask .result) marks held named (omega (arith, few)) (c .before .before .before .before .input-mask .ensures .0) (c .before .before .before .before .input-mask .ensures .1) (marks-below ns n marks bounds), (s .pre .0, drivable ns ps vs n (c .before .before .before .before .input-mask .result) marks held named few (c .before .before .before .undriven .result) (c .before .before .before .undriven .ensures)))
 
 same-length : tie.Need-same-length
 same-length c = search needs

@@ -2,7 +2,7 @@
 use borrow.Author.Needs.{needs}
 use mathlib.Core.Path.{_≡_, refl, sym, ap, ap₂, subst, _∙_}
 use mathlib.Core.List.{List}
-use mathlib.Core.Bool.{true, false}
+use mathlib.Core.Bool.{true, false, not}
 use Prim.Native.Nat.{ℕ, _-_, _^_, _≤_, _<_}
 use lib.ListN.{length}
 use native.Mathlib.Omega.{arith}
@@ -10,12 +10,13 @@ use Rattle.meaning.specs.Rules.Limits.{mostInputs}
 use Rattle.meaning.specs.Rules.Trees.{Tree, rootOf}
 use Rattle.meaning.specs.Rules.Assignments.{inputs, drive}
 use Rattle.meaning.specs.Rules.Answers.{Assignment, answer}
-use Rattle.meaning.specs.Rules.Comparison.{agree, assignments, decidedAt}
+use Rattle.meaning.specs.Rules.Comparison.{agree, decides, assignments, decidedAt}
 use Rattle.meaning.specs.Laws.BoolLaws.{not-is-true, not-is-false}
+use Rattle.meaning.specs.Laws.SearchLaws.{NoneBelow, none-yet, none-next}
 use Rattle.inputs.specs.Driving.{OthersUndriven, still-undriven}
 use Rattle.trials.specs.declared.Roots.{Roots}
 use Rattle.trials.specs.Trial.{BothPrepared, triedWork, still-both}
-use Rattle.comparer.specs.Searched.{NoneBelow, none-yet, none-next, searched-through, searched-to, firstAnswer, secondAnswer}
+use Rattle.comparer.specs.Searched.{searched-through, searched-to, firstAnswer, secondAnswer}
 use Rattle.comparer.proofs.lowest.lowest_deciding.Statement.{statement}
 use Rattle.comparer.proofs.lowest.lowest_deciding.Tie as tie
 
@@ -27,7 +28,7 @@ Inv-loop nodes pool second-nodes second-pool variables bytes₀ work₀ total in
     × (length work ≡ length work₀)
     × BothPrepared nodes pool second-nodes second-pool work
     × OthersUndriven variables bytes
-    × NoneBelow (rootOf nodes pool) (rootOf second-nodes second-pool) index
+    × NoneBelow (decides (inputs (rootOf nodes pool)) (rootOf nodes pool) (rootOf second-nodes second-pool)) index
 
 abbrev μ-loop : tie.MeasureT-loop
 μ-loop nodes pool second-nodes second-pool variables bytes₀ work₀ total index₀ bytes work index = total - index
@@ -49,7 +50,7 @@ loop-holds c =
     let t : Tree = rootOf ns ps in
     let u : Tree = rootOf ms qs in
     let named : vs ≡ inputs t = s .pre .1 .0 in
-    (omega arith, c .power-of-two .ensures, refl, refl, s .pre .0, s .pre .1 .1 .others, none-yet t u)
+    (omega arith, c .power-of-two .ensures, refl, refl, s .pre .0, s .pre .1 .1 .others, none-yet (decides (inputs t) t u))
 
 answers-at-requires : tie.Need-answers-at-requires Inv-loop μ-loop
 answers-at-requires c κs =
@@ -131,7 +132,7 @@ loop-again c =
       c .before .before .before .before .before .before .answers-at .kept .1 .1 .1 .1 .1 .1 .1 .0 ∙ l .inv .3,
       subst (BothPrepared ns ps ms qs) (sym left) (still-both ns ps ms qs α work (l .inv .4)),
       still-undriven vs (c .before .before .before .before .before .before .answers-at .last .1 .1 .1 .1 .1 .1 .0) i (c .before .before .before .before .before .before .answers-at .ensures .1 .1),
-      none-next t u i (l .inv .6) same,
+      none-next (decides (inputs t) t u) i (l .inv .6) (ap not same),
     )
 
 equivalent-requires : tie.Need-equivalent-requires Inv-loop μ-loop

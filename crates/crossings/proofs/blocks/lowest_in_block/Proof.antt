@@ -1,4 +1,5 @@
--- `lowest_in_block` meets its contract: up to the loop's run bits, nothing of the block below the lowest differs from the base.
+-- `lowest_in_block` meets its contract: up to the loop's run bits, nothing of the block below the lowest differs from the
+-- base.
 use Rattle.crossings.specs.Lowest.{answerAt, lowerOf, Lowered, NoneInBlock, lowered-none, lowered-twice, block-start, block-past, turn-lowered, turn-none}
 use Rattle.subsets.specs.Next.{IsNext}
 use Rattle.subsets.specs.Among.{Among, none-among, among-le}
