@@ -8,7 +8,7 @@ use native.Mathlib.Nat.{mod-lt}
 use native.Mathlib.Omega.{arith}
 use native.Mathlib.Decide.{decLt}
 use lib.Pow.{pow-pos, pow-mono}
-use lib.Bits.{bitAnd, bitOr, and-lt, or-lt, and-le-l}
+use lib.Bits.{bitAnd, bitOr, and-lt, or-lt, and-le-l, or-disjoint}
 use borrow.Author.Tests.{eqb-true, eqb-false}
 use Rattle.meaning.specs.declared.Answer.{Answer}
 use Rattle.meaning.specs.Rules.Words.{bitAt, ones}
@@ -21,7 +21,7 @@ use Rattle.meaning.specs.Claims.Terms.{asRun, asCleared}
 use Rattle.meaning.specs.Laws.WordLaws.{bit-lt, bit-above, bit-mod}
 use Rattle.bits.specs.Bit.{bit-and, bit-or, bit-not, bit-ext}
 use Rattle.subsets.specs.Among.{Among, among-le, among-bit, bits-among, cut-among}
-use Rattle.input_bits.specs.Seen.{toBit, IsMask}
+use Rattle.input_bits.specs.Seen.{toBit, IsMask, bit-none}
 use Rattle.crossings.specs.Depends.{AgreeOn, same-answer}
 use Rattle.crossings.specs.Driven.{driven-at, undriven-at, cleared-is}
 
@@ -116,6 +116,20 @@ module _ (t : Tree) (n run : ℕ) where
 
     pub parted-blocks : Blocks (2 ^ s) free marked
     parted-blocks = record { cleared = one-cleared; all = lowered }
+
+    -- no variable is in both
+    pub parted-sum : (x y : ℕ) → Among free x → Among marked y → bitOr x y ≡ x + y
+    parted-sum x y a b = or-disjoint x y (bit-ext n (bitAnd x y) 0 (and-lt n x y (below free x a (p .freeSmall)) (below marked y b (p .markedSmall))) (pow-pos n) none)
+      where
+        below : (mask z : ℕ) → Among mask z → mask < 2 ^ n → z < 2 ^ n
+        below mask z c h = omega (arith, among-le mask z c, h)
+
+        none : (v : ℕ) → v < n → bitAt (bitAnd x y) v ≡ bitAt 0 v
+        none v h = bit-and x y v ∙ go (isMarked run v) refl ∙ sym (bit-none v)
+          where
+            go : (m : Bool) → isMarked run v ≡ m → min (bitAt x v) (bitAt y v) ≡ 0
+            go true e = omega (arith, among-bit free x v a, p .unmarked v h e)
+            go false e = omega (arith, among-bit marked y v b, p .onlyMarked v h e)
 
   -- ---- the variables below the root, parted by the marks and cut to the first s
   module _ (inputs : ℕ) (mask : IsMask t inputs) (inputsSmall : inputs < 2 ^ n) (marks : run < 2 ^ n) (few : n ≤ 64) (s : ℕ) (some : s ≤ n) where

@@ -1,13 +1,11 @@
 -- The lowest crossing so far, as the search goes block by block: what is below it and was gone through does not cross, and
 -- it crosses itself where it is below the limit.
-use Prim.Native.Nat.{ℕ, _≤_, _<_}
-use mathlib.Core.Path.{_≡_, refl, sym, ap, subst, _∙_}
-use mathlib.Core.Bool.{Bool, true, false, cond, not, _&&_}
+use Prim.Native.Nat.{ℕ, _+_, _≤_, _<_}
+use mathlib.Core.Path.{_≡_, refl, sym, ap, _∙_}
+use mathlib.Core.Bool.{Bool, true, false, not}
 use native.Mathlib.Omega.{arith}
 use native.Mathlib.Decide.{decLt}
-use lib.Dec.{ltb}
-use lib.Bits.{bitOr, or-zero-r, or-add-and, and-le-r}
-use borrow.Author.Tests.{lt-ltb, le-ltb}
+use lib.Bits.{bitOr, or-zero-r}
 use Rattle.meaning.specs.declared.Answer.{Answer}
 use Rattle.meaning.specs.Rules.Trees.{Tree}
 use Rattle.meaning.specs.Rules.Answers.{answer}
@@ -22,9 +20,12 @@ use Rattle.subsets.specs.Among.{Among, among-le}
 use Rattle.subsets.specs.Next.{IsNext}
 use Rattle.crossings.specs.Blocks.{Lower, Blocks}
 
--- what one assignment makes of the lowest so far: itself, if it is lower and answers otherwise
-abbrev pub lowerOf : ℕ → Bool → ℕ → ℕ
-lowerOf i same best = cond (ltb i best && not same) i best
+-- x has no bit of the mask, so that a block is in the order of its run bits; and no word of a mask has one of another's
+abbrev pub ApartFrom : ℕ → ℕ → Type 0
+ApartFrom marked x = (y : ℕ) → Among marked y → bitOr x y ≡ x + y
+
+abbrev pub Apart : ℕ → ℕ → Type 0
+Apart free marked = (x : ℕ) → Among free x → ApartFrom marked x
 
 module _ (t : Tree) (n : ℕ) where
   -- the root's answer at assignment i of n variables, and whether it is another than at x
@@ -53,15 +54,6 @@ module _ (t : Tree) (n : ℕ) where
     pub lowered-none : (best : ℕ) → Lowered marked x best best
     lowered-none best = (omega arith, λ l. absurd (omega arith))
 
-    pub lowered-twice : (a b c : ℕ) → Lowered marked x a b → Lowered marked x b c → Lowered marked x a c
-    lowered-twice a b c f g = (
-      omega (arith, f .0, g .0),
-      λ l. elim (decLt c b) [
-        | yes h ↦ g .1 h
-        | no h ↦ let e : c ≡ b = omega (arith, g .0, h) in rw e (f .1 (omega (arith, e, l)))
-      ],
-    )
-
     -- the base answers as itself
     pub block-start : (best : ℕ) → NoneInBlock marked x 0 best
     block-start best z a h l =
@@ -69,40 +61,24 @@ module _ (t : Tree) (n : ℕ) where
         let own : bitOr x z ≡ x = ap (bitOr x) e ∙ or-zero-r x in
         rw own (ap not (sameAnswer-refl (answerAt x)))
 
-    -- nothing of a block is below its base
-    pub block-past : (y best : ℕ) → best ≤ x → NoneInBlock marked x y best
-    block-past y best h z a k l = absurd (omega (arith, h, l, or-add-and x z, and-le-r x z))
-
-    module _ (y z best found : ℕ) (next : IsNext marked y z) (same : Bool)
-        (is : same ≡ sameAnswer (answerAt (bitOr x z)) (answerAt x)) (made : found ≡ lowerOf (bitOr x z) same best) where
-      pub turn-lowered : Lowered marked x best found
-      turn-lowered = subst (Lowered marked x best) (sym made) (go (decLt (bitOr x z) best) same is)
-        where
-          go : Dec (bitOr x z < best) → (b : Bool) → b ≡ sameAnswer (answerAt (bitOr x z)) (answerAt x)
-              → Lowered marked x best (lowerOf (bitOr x z) b best)
-          go (yes l) true e = rw (lt-ltb (bitOr x z) best l) (lowered-none best)
-          go (yes l) false e =
-              rw (lt-ltb (bitOr x z) best l)
-              (omega (arith, l), λ k. record { rest = z; isRest = next .among; is = refl; here = ap not (sym e) })
-          go (no l) b e = rw (le-ltb (bitOr x z) best (omega (arith, l))) (lowered-none best)
-
-      pub turn-none : NoneInBlock marked x y best → NoneInBlock marked x z found
-      turn-none none w a h l = elim (decLt y w) [
-        | yes k ↦
-            let e : w ≡ z = omega (arith, h, next .least w a k) in
-            rw e (here (decLt (bitOr x z) best) same is made (subst (λ (q : ℕ). bitOr x q < found) e l))
-        | no k ↦ none w a (omega (arith, k)) (omega (arith, l, turn-lowered .0))
+    module _ (y z : ℕ) (next : IsNext marked y z) where
+      pub block-next : (best : ℕ) → NoneInBlock marked x y best → differs x (bitOr x z) ≡ false → NoneInBlock marked x z best
+      block-next best none same w a h l = elim (decLt y w) [
+        | yes k ↦ let e : w ≡ z = omega (arith, h, next .least w a k) in rw e same
+        | no k ↦ none w a (omega (arith, k)) l
       ]
-        where
-          here : Dec (bitOr x z < best) → (b : Bool) → b ≡ sameAnswer (answerAt (bitOr x z)) (answerAt x) → found ≡ lowerOf (bitOr x z) b best
-              → bitOr x z < found → differs x (bitOr x z) ≡ false
-          here (yes i) true e m l = ap not (sym e)
-          here (yes i) false e m l =
-              let own : found ≡ bitOr x z = m ∙ rw (lt-ltb (bitOr x z) best i) refl in
-              absurd (omega (arith, l, own))
-          here (no i) b e m l =
-              let kept : found ≡ best = m ∙ rw (le-ltb (bitOr x z) best (omega (arith, i))) refl in
-              absurd (omega (arith, i, l, kept))
+
+      -- what is left of the block is not below z
+      pub block-rest : ApartFrom marked x → (best found : ℕ) → NoneInBlock marked x y best → found ≤ best → found ≤ bitOr x z
+          → NoneInBlock marked x marked found
+      block-rest apart best found none low rest w a h l = elim (decLt y w) [
+        | yes k ↦ absurd (omega (arith, l, rest, next .least w a k, apart w a, apart z (next .among)))
+        | no k ↦ none w a (omega (arith, k)) (omega (arith, l, low))
+      ]
+
+      -- z differs, and is below the lowest so far
+      pub block-found : (best : ℕ) → bitOr x z < best → differs x (bitOr x z) ≡ true → Lowered marked x best (bitOr x z)
+      block-found best low here = (omega (arith, low), λ l. record { rest = z; isRest = next .among; is = refl; here = here })
 
   -- ---- block after block: of the blocks up to x, nothing that is below `best` differs from its base
   abbrev pub NoneTo : ℕ → ℕ → ℕ → ℕ → Type 0
@@ -132,6 +108,18 @@ module _ (t : Tree) (n : ℕ) where
         | no h ↦ let e : found ≡ best = omega (arith, g .0, h) in rw e (f .1 (omega (arith, e, l)))
       ],
     )
+
+    -- what is left of the blocks is not below the first of the next that is no base
+    pub blocks-rest : Apart free marked → (x z first best : ℕ) → IsNext free x z → IsNext marked 0 first → best ≤ bitOr z first
+        → NoneTo free marked x best → NoneTo free marked free best
+    blocks-rest apart x z first best next least rest none w a h = elim (decLt x w) [
+      | yes k ↦ λ q b i l. elim (decLt 0 q) [
+        | yes some ↦
+            absurd (omega (arith, l, rest, next .least w a k, least .least q b some, apart w a q b, apart z (next .among) first (least .among)))
+        | no none ↦ block-start marked w best q b (omega (arith, none)) l
+      ]
+      | no k ↦ none w a (omega (arith, k))
+    ]
 
     -- ---- all blocks are gone through
     module _ (run limit best : ℕ) (blocks : Blocks t n run limit free marked) where

@@ -2,18 +2,20 @@
 // run bits alone: the base is the cleared self of each, so it is answered once. The blocks are gone through in the
 // order of their bases and not in that of the assignments, so the lowest so far is kept, and nothing above it is tried.
 use super::trial::answer_under;
-use super::trial::lower_of;
+use super::trial::differs_at;
 use subsets::next_among;
 ghost use mathlib.Core.Path.{_≡_};
+ghost use Prim.Native.Nat.{_<_};
 ghost use lib.ListN.{length};
 ghost use Rattle.meaning.specs.Rules.Trees.{rootOf};
 ghost use Rattle.meaning.specs.Rules.Assignments.{upto};
 ghost use Rattle.rows.specs.Rows.{Prepared};
 ghost use Rattle.inputs.specs.Driving.{Drivable};
-ghost use Rattle.crossings.specs.Lowest.{Lowered, LoweredTo, NoneInBlock, NoneTo};
+ghost use Rattle.crossings.specs.Lowest.{Apart, ApartFrom, Lowered, LoweredTo, NoneInBlock, NoneTo};
 
 // The lowest assignment below `limit` that differs from its base, or `limit`. `free` has the variables that bases
-// drive, `marked` the run signals.
+// drive, `marked` the run signals. It ends where all that is left lies above the lowest so far: a block begins with its
+// base, and the next after that has the lowest run signal set.
 pub(crate) fn lowest_of_blocks(
     nodes: &[u32],
     pool: &[u32],
@@ -24,6 +26,7 @@ pub(crate) fn lowest_of_blocks(
     bytes: &mut [u8],
     work: &mut [u64],
 ) -> u64
+    requires { ⌜ (0 < marked) × Apart free marked ⌝ }
     requires { ⌜ now variables ≡ upto (length (now variables)) ⌝ }
     requires { ⌜ Prepared (now nodes) (now pool) 0 (now work) ⌝ }
     requires { ⌜ Drivable (now variables) (now bytes) ⌝ }
@@ -32,10 +35,14 @@ pub(crate) fn lowest_of_blocks(
     ensures { λ _. ⌜ Prepared (now (nodes .entry)) (now (pool .entry)) 0 (now (work .exit)) ⌝ }
     ensures { λ _. ⌜ Drivable (now (variables .entry)) (now (bytes .exit)) ⌝ }
 {
+    let first = next_among(marked, 0);
     let mut base: u64 = 0;
     let mut lowest = lowest_in_block(nodes, pool, variables, base, marked, limit, bytes, work);
     while base < free {
         base = next_among(free, base);
+        if lowest <= base | first {
+            return lowest;
+        }
         lowest = lowest_in_block(nodes, pool, variables, base, marked, lowest, bytes, work);
     }
     lowest
@@ -52,6 +59,7 @@ fn lowest_in_block(
     bytes: &mut [u8],
     work: &mut [u64],
 ) -> u64
+    requires { ⌜ ApartFrom marked base ⌝ }
     requires { ⌜ now variables ≡ upto (length (now variables)) ⌝ }
     requires { ⌜ Prepared (now nodes) (now pool) 0 (now work) ⌝ }
     requires { ⌜ Drivable (now variables) (now bytes) ⌝ }
@@ -60,24 +68,17 @@ fn lowest_in_block(
     ensures { λ _. ⌜ Prepared (now (nodes .entry)) (now (pool .entry)) 0 (now (work .exit)) ⌝ }
     ensures { λ _. ⌜ Drivable (now (variables .entry)) (now (bytes .exit)) ⌝ }
 {
-    if lowest <= base {
-        return lowest;
-    }
     let cleared = answer_under(nodes, pool, variables, base, bytes, work);
-    let mut found = lowest;
     let mut run: u64 = 0;
     while run < marked {
         run = next_among(marked, run);
-        found = lower_of(
-            nodes,
-            pool,
-            variables,
-            base | run,
-            cleared,
-            found,
-            bytes,
-            work,
-        );
+        let index = base | run;
+        if lowest <= index {
+            return lowest;
+        }
+        if differs_at(nodes, pool, variables, index, cleared, bytes, work) {
+            return index;
+        }
     }
-    found
+    lowest
 }

@@ -1,6 +1,6 @@
 // How far each stage goes. A stage tries all assignments of its variables, those of the stages before it among them, so
 // the stages are cut from the last variable down, STAGE of those below the root to each: then all before the last have
-// together a fifteenth of its assignments, and a crossing costs at most some sixteen times what lies below it. The
+// together a fifteenth of its assignments, and a crossing costs at most some seventeen times what lies below it. The
 // promise is only that the stages get on; the answer does not depend on where they end (specs/Stages).
 use bits::bit_at;
 ghost use Prim.Native.Nat.{_<_, _≤_};

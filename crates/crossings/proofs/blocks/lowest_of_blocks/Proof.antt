@@ -1,5 +1,5 @@
 -- `lowest_of_blocks` meets its contract: up to the loop's base, no block has anything below the lowest that differs.
-use Rattle.crossings.specs.Lowest.{LoweredTo, NoneTo, first-block, next-block, next-lowered}
+use Rattle.crossings.specs.Lowest.{LoweredTo, NoneTo, first-block, next-block, next-lowered, blocks-rest}
 use Rattle.subsets.specs.Next.{IsNext}
 use Rattle.subsets.specs.Among.{Among, none-among, among-le}
 use Rattle.inputs.specs.Driving.{Drivable}
@@ -17,7 +17,7 @@ use Rattle.crossings.proofs.blocks.lowest_in_block.Reads as lowest-in-b
 use Rattle.subsets.proofs.next_among.Reads as next-among-reads
 
 abbrev Inv-loop : tie.InvT-loop
-Inv-loop nodes pool variables free marked limit bytes₀ work₀ base₀ lowest₀ bytes work base lowest =
+Inv-loop nodes pool variables free marked limit bytes₀ work₀ first base₀ lowest₀ bytes work base lowest =
     (base ≤ free)
     × Among free base
     × (length bytes ≡ length bytes₀)
@@ -28,14 +28,21 @@ Inv-loop nodes pool variables free marked limit bytes₀ work₀ base₀ lowest�
     × NoneTo (rootOf nodes pool) (length variables) free marked base lowest
 
 abbrev μ-loop : tie.MeasureT-loop
-μ-loop nodes pool variables free marked limit bytes₀ work₀ base₀ lowest₀ bytes work base lowest = free - base
+μ-loop nodes pool variables free marked limit bytes₀ work₀ first base₀ lowest₀ bytes work base lowest = free - base
+
+next-among-requires : tie.Need-next-among-requires Inv-loop μ-loop
+next-among-requires c κs =
+    let s = c .before .before .before .before .before in
+    (none-among (s .args .marked), s .pre .0 .0)
 
 lowest-in-block-requires : tie.Need-lowest-in-block-requires Inv-loop μ-loop
-lowest-in-block-requires c κs = c .before .before .before .before .before .before .before .pre
+lowest-in-block-requires c κs =
+    let s = c .before .before .before .before .before .before .before .before in
+    (s .pre .0 .1 0 (none-among (s .args .free)), s .pre .1)
 
 loop-holds : tie.Need-loop-holds Inv-loop μ-loop
 loop-holds c =
-    let s = c .before .before .before .before .before .before .before .before .before .before .before .before in
+    let s = c .before .before .before .before .before .before .before .before .before .before .before .before .before in
     let t : Tree = rootOf (s .args .nodes .now) (s .args .pool .now) in
     let n : ℕ = length (s .args .variables .now) in
     let free : ℕ = s .args .free in
@@ -53,28 +60,48 @@ loop-holds c =
       first-block t n free marked found (c .before .before .before .before .lowest-in-block .ensures .1 .0),
     )
 
-next-among-requires : tie.Need-next-among-requires Inv-loop μ-loop
-next-among-requires c κs = (c .before .loop .inv .1, c .loop-test .taken)
+next-among-requires-2 : tie.Need-next-among-requires-2 Inv-loop μ-loop
+next-among-requires-2 c κs = (c .before .loop .inv .1, c .loop-test .taken)
 
-lowest-in-block-requires-2 : tie.Need-lowest-in-block-requires-2 Inv-loop μ-loop
-lowest-in-block-requires-2 c κs =
-    let l = c .before .before .before .before .loop in
-    (c .before .before .before .before .before .before .before .before .before .before .before .before .before .before .before .before .before .pre .0, (l .inv .4, l .inv .5))
+same-length : tie.Need-same-length Inv-loop μ-loop
+same-length c = c .before .before .before .loop .inv .2 ∙ c .before .before .before .before .before .before .before .before .lowest-in-block .kept .1 .1 .1 .1 .1 .1 .0
 
-loop-less : tie.Need-loop-less Inv-loop μ-loop
-loop-less c = omega (arith, c .before .before .before .before .before .before .before .next-among .ensures .above, among-le (c .before .before .before .before .before .before .before .before .before .before .before .before .before .before .before .before .before .before .before .before .before .before .args .free) (c .before .before .before .before .before .before .before .next-among .result) (c .before .before .before .before .before .before .before .next-among .ensures .among))
+same-length-2 : tie.Need-same-length-2 Inv-loop μ-loop
+same-length-2 c = c .before .before .before .loop .inv .3 ∙ c .before .before .before .before .before .before .before .before .lowest-in-block .kept .1 .1 .1 .1 .1 .1 .1 .0
 
-loop-again : tie.Need-loop-again Inv-loop μ-loop
-loop-again c =
-    let l = c .before .before .before .before .before .before .before .before .before .loop in
-    let s = c .before .before .before .before .before .before .before .before .before .before .before .before .before .before .before .before .before .before .before .before .before .before in
+returns : tie.Need-returns Inv-loop μ-loop
+returns c =
+    let l = c .before .before .before .loop in
+    let s = c .before .before .before .before .before .before .before .before .before .before .before .before .before .before .before .before .before in
     let t : Tree = rootOf (s .args .nodes .now) (s .args .pool .now) in
     let n : ℕ = length (s .args .variables .now) in
     let free : ℕ = s .args .free in
     let marked : ℕ = s .args .marked in
     let limit : ℕ = s .args .limit in
-    let z : ℕ = c .before .before .before .before .before .before .before .next-among .result in
-    let next : IsNext free (l .base) z = c .before .before .before .before .before .before .before .next-among .ensures in
+    let z : ℕ = c .before .next-among2 .result in
+    let next : IsNext free (l .base) z = c .before .next-among2 .ensures in
+    (l .inv .6, (blocks-rest t n free marked (s .pre .0 .1) (l .base) z (c .before .before .before .before .before .before .before .before .before .before .before .next-among .result) (l .lowest) next (c .before .before .before .before .before .before .before .before .before .before .before .next-among .ensures) (c .if1 .taken) (l .inv .7), (l .inv .4, l .inv .5)))
+
+lowest-in-block-requires-2 : tie.Need-lowest-in-block-requires-2 Inv-loop μ-loop
+lowest-in-block-requires-2 c κs =
+    let s = c .before .before .before .before .before .before .before .before .before .before .before .before .before .before .before .before .before .before .before in
+    let l = c .before .before .before .before .before .loop in
+    (s .pre .0 .1 (c .before .before .before .next-among2 .result) (c .before .before .before .next-among2 .ensures .among), (s .pre .1 .0, (l .inv .4, l .inv .5)))
+
+loop-less : tie.Need-loop-less Inv-loop μ-loop
+loop-less c = omega (arith, c .before .before .before .before .before .before .before .before .next-among2 .ensures .above, among-le (c .before .before .before .before .before .before .before .before .before .before .before .before .before .before .before .before .before .before .before .before .before .before .before .before .args .free) (c .before .before .before .before .before .before .before .before .next-among2 .result) (c .before .before .before .before .before .before .before .before .next-among2 .ensures .among))
+
+loop-again : tie.Need-loop-again Inv-loop μ-loop
+loop-again c =
+    let l = c .before .before .before .before .before .before .before .before .before .before .loop in
+    let s = c .before .before .before .before .before .before .before .before .before .before .before .before .before .before .before .before .before .before .before .before .before .before .before .before in
+    let t : Tree = rootOf (s .args .nodes .now) (s .args .pool .now) in
+    let n : ℕ = length (s .args .variables .now) in
+    let free : ℕ = s .args .free in
+    let marked : ℕ = s .args .marked in
+    let limit : ℕ = s .args .limit in
+    let z : ℕ = c .before .before .before .before .before .before .before .before .next-among2 .result in
+    let next : IsNext free (l .base) z = c .before .before .before .before .before .before .before .before .next-among2 .ensures in
     let found : ℕ = c .before .before .before .before .lowest-in-block2 .result in (
       among-le free z (next .among),
       next .among,
@@ -86,16 +113,16 @@ loop-again c =
       next-block t n free marked (l .base) z (l .lowest) found next (c .before .before .before .before .lowest-in-block2 .ensures .0) (l .inv .7) (c .before .before .before .before .lowest-in-block2 .ensures .1 .0),
     )
 
-same-length : tie.Need-same-length Inv-loop μ-loop
-same-length c = c .before .loop .inv .2 ∙ c .before .before .before .before .before .before .lowest-in-block .kept .1 .1 .1 .1 .1 .1 .0
+same-length-3 : tie.Need-same-length-3 Inv-loop μ-loop
+same-length-3 c = c .before .loop .inv .2 ∙ c .before .before .before .before .before .before .lowest-in-block .kept .1 .1 .1 .1 .1 .1 .0
 
-same-length-2 : tie.Need-same-length-2 Inv-loop μ-loop
-same-length-2 c = c .before .loop .inv .3 ∙ c .before .before .before .before .before .before .lowest-in-block .kept .1 .1 .1 .1 .1 .1 .1 .0
+same-length-4 : tie.Need-same-length-4 Inv-loop μ-loop
+same-length-4 c = c .before .loop .inv .3 ∙ c .before .before .before .before .before .before .lowest-in-block .kept .1 .1 .1 .1 .1 .1 .1 .0
 
-returns : tie.Need-returns Inv-loop μ-loop
-returns c =
+returns-2 : tie.Need-returns-2 Inv-loop μ-loop
+returns-2 c =
     let l = c .before .loop in
-    let s = c .before .before .before .before .before .before .before .before .before .before .before .before .before .before in
+    let s = c .before .before .before .before .before .before .before .before .before .before .before .before .before .before .before in
     let t : Tree = rootOf (s .args .nodes .now) (s .args .pool .now) in
     let n : ℕ = length (s .args .variables .now) in
     let free : ℕ = s .args .free in
@@ -110,12 +137,16 @@ lowest-of-blocks-spec =
     (tie.spec
     Inv-loop
     μ-loop
+    next-among-requires
     lowest-in-block-requires
     loop-holds
-    next-among-requires
+    next-among-requires-2
+    same-length
+    same-length-2
+    returns
     lowest-in-block-requires-2
     loop-less
     loop-again
-    same-length
-    same-length-2
-    returns)
+    same-length-3
+    same-length-4
+    returns-2)
