@@ -50,7 +50,7 @@ bit-shr x k j = ap (λ (z : ℕ). z % 2) (shr-shr x k j)
 pub bit-suc : (x j : ℕ) → bitAt x (suc j) ≡ bitAt (x / 2) j
 bit-suc x j = let e : 1 + j ≡ suc j = omega arith in rw (← e) (sym (bit-shr x 1 j))
 
-bit-zero : (j : ℕ) → bitAt 0 j ≡ 0
+pub bit-zero : (j : ℕ) → bitAt 0 j ≡ 0
 bit-zero j = ap (λ (z : ℕ). z % 2) (zero-div (2 ^ j))
 
 -- below k nothing is left, also where k is past the width

@@ -19,9 +19,9 @@ use Rattle.meaning.specs.Rules.Comparison.{sameAnswer}
 use Rattle.meaning.specs.Rules.Separation.{isMarked, runCleared, crosses}
 use Rattle.meaning.specs.Claims.Terms.{asRun, asCleared}
 use Rattle.meaning.specs.Laws.WordLaws.{bit-lt, bit-above, bit-mod}
-use Rattle.bits.specs.Bit.{bit-and, bit-or, bit-not, bit-ext}
+use Rattle.bits.specs.Bit.{bit-zero, bit-and, bit-or, bit-not, bit-ext}
 use Rattle.subsets.specs.Among.{Among, among-le, among-bit, bits-among, cut-among}
-use Rattle.input_bits.specs.Seen.{toBit, IsMask, bit-none}
+use Rattle.input_bits.specs.Seen.{toBit, IsMask}
 use Rattle.crossings.specs.Depends.{AgreeOn, same-answer}
 use Rattle.crossings.specs.Driven.{driven-at, undriven-at, cleared-is}
 
@@ -125,7 +125,7 @@ module _ (t : Tree) (n run : ℕ) where
         below mask z c h = omega (arith, among-le mask z c, h)
 
         none : (v : ℕ) → v < n → bitAt (bitAnd x y) v ≡ bitAt 0 v
-        none v h = bit-and x y v ∙ go (isMarked run v) refl ∙ sym (bit-none v)
+        none v h = bit-and x y v ∙ go (isMarked run v) refl ∙ sym (bit-zero v)
           where
             go : (m : Bool) → isMarked run v ≡ m → min (bitAt x v) (bitAt y v) ≡ 0
             go true e = omega (arith, among-bit free x v a, p .unmarked v h e)

@@ -15,7 +15,8 @@ use Rattle.meaning.specs.Claims.Terms.{asRun}
 use Rattle.meaning.specs.Laws.BoolLaws.{true-false, not-true}
 use Rattle.meaning.specs.Laws.SearchLaws.{lowest-is, lowest-only, lowest-none}
 use Rattle.meaning.specs.Laws.AssignmentLaws.{sameAnswer-refl}
-use Rattle.input_bits.specs.Seen.{bit-none, IsMask}
+use Rattle.bits.specs.Bit.{bit-zero}
+use Rattle.input_bits.specs.Seen.{IsMask}
 use Rattle.crossings.specs.Driven.{cleared-is}
 use Rattle.crossings.specs.Blocks.{crossing-among}
 
@@ -38,7 +39,7 @@ module _ (t : Tree) (n run : ℕ) where
       zeros false = refl
 
       clear : (v : ℕ) → v < n → bitAt 0 v ≡ cond (isMarked run v) 0 (bitAt 0 v)
-      clear v h = bit-none v ∙ sym (ap (λ (b : ℕ). cond (isMarked run v) 0 b) (bit-none v) ∙ zeros (isMarked run v))
+      clear v h = bit-zero v ∙ sym (ap (λ (b : ℕ). cond (isMarked run v) 0 b) (bit-zero v) ∙ zeros (isMarked run v))
 
       own : crosses t n run 0 ≡ false
       own =

@@ -1,11 +1,10 @@
 -- The variables below a root as bits of a word: what a walk over the nodes has seen of them, and that at its end bit v is
 -- there exactly if variable v occurs below the root.
-use Prim.Native.Nat.{ℕ, zero, suc, _+_, _-_, _*_, _%_, _^_, _<_, max}
+use Prim.Native.Nat.{ℕ, zero, suc, _+_, _-_, _*_, _^_, _<_, max}
 use mathlib.Core.Path.{_≡_, refl, sym, ap, ap₂, _∙_}
 use mathlib.Core.Logic.{⊎-elim}
 use mathlib.Core.List.{List}
 use mathlib.Core.Bool.{Bool, true, false, cond, _&&_, _||_}
-use native.Mathlib.Nat.{zero-div}
 use native.Mathlib.Numerals.{add-one}
 use native.Mathlib.Omega.{arith}
 use native.Mathlib.Decide.{decLt}
@@ -21,7 +20,7 @@ use Rattle.meaning.specs.Rules.Assignments.{occurs}
 use Rattle.meaning.specs.Claims.Column.{Sound}
 use Rattle.meaning.specs.Laws.BoolLaws.{true-false, or-cases, or-left-false, or-right-false}
 use Rattle.meaning.specs.Laws.WordLaws.{bit-above, bit-low, bit-high}
-use Rattle.bits.specs.Bit.{bit-or, bit-ext}
+use Rattle.bits.specs.Bit.{bit-zero, bit-or, bit-ext}
 use Rattle.inputs.specs.Inputs.{isInput, input-found, input-none}
 
 abbrev pub toBit : Bool → ℕ
@@ -39,13 +38,10 @@ mask-only t w {m} {m′} l l′ a b = bit-ext w m m′ l l′ (λ v h. a v ∙ s
 abbrev pub IsBitOf : List ℕ → List ℕ → ℕ → ℕ → Type 0
 IsBitOf ns ps i word = (v : ℕ) → bitAt word v ≡ toBit (isInput ns ps v i)
 
--- ---- words of one bit, and of none
-pub bit-none : (v : ℕ) → bitAt 0 v ≡ 0
-bit-none v = ap (λ (z : ℕ). z % 2) (zero-div (2 ^ v))
-
+-- ---- a word of one bit
 pub bit-power : (f v : ℕ) → bitAt (2 ^ f) v ≡ toBit (eqb f v)
 bit-power f v = ap (λ (x : ℕ). bitAt x v) one ∙ elim (decLt v f) [
-  | yes h ↦ bit-low 1 0 f v (pow-pos f) h ∙ bit-none v ∙ ap toBit (sym (ne-eqb f v (λ e. absurd (omega arith))))
+  | yes h ↦ bit-low 1 0 f v (pow-pos f) h ∙ bit-zero v ∙ ap toBit (sym (ne-eqb f v (λ e. absurd (omega arith))))
   | no h ↦
       let e : f + (v - f) ≡ v = omega arith in
       ap (bitAt (1 * 2 ^ f + 0)) (sym e) ∙ bit-high 1 0 f (v - f) (pow-pos f) ∙ upper h (decLt f v)
@@ -109,10 +105,10 @@ module _ (ns ps : List ℕ) where
 
   -- ---- the bit of one node
   pub other-kind : (i : ℕ) → (kindAt ns i ≡ variableWord → ⊥) → IsBitOf ns ps i 0
-  other-kind i h v = bit-none v ∙ ap (λ (b : Bool). toBit (b && (eqb (firstAt ns i) v && reachable ns ps i))) (sym (ne-eqb (kindAt ns i) variableWord h))
+  other-kind i h v = bit-zero v ∙ ap (λ (b : Bool). toBit (b && (eqb (firstAt ns i) v && reachable ns ps i))) (sym (ne-eqb (kindAt ns i) variableWord h))
 
   pub unreached : (i : ℕ) → markOf ns ps i ≡ 0 → IsBitOf ns ps i 0
-  unreached i h v = bit-none v ∙ sym (rw (le-ltb 0 (markOf ns ps i) (omega (arith, h))) (none (eqb (kindAt ns i) variableWord) (eqb (firstAt ns i) v)))
+  unreached i h v = bit-zero v ∙ sym (rw (le-ltb 0 (markOf ns ps i) (omega (arith, h))) (none (eqb (kindAt ns i) variableWord) (eqb (firstAt ns i) v)))
     where
       none : (a b : Bool) → toBit (a && (b && false)) ≡ 0
       none true true = refl

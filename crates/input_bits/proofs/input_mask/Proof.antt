@@ -1,5 +1,6 @@
 -- `input_mask` meets its contract: the mask has the variables among the nodes below the loop's.
-use Rattle.input_bits.specs.Seen.{SeenTo, bit-none, seen-next, seen-all}
+use Rattle.bits.specs.Bit.{bit-zero}
+use Rattle.input_bits.specs.Seen.{SeenTo, seen-next, seen-all}
 use Rattle.meaning.specs.Rules.Trees.{nodeCount}
 use lib.Bits.{or-lt}
 use lib.Pow.{pow-pos}
@@ -25,7 +26,7 @@ node-count-requires : tie.Need-node-count-requires Inv-loop μ-loop
 node-count-requires c κs = search needs
 
 loop-holds : tie.Need-loop-holds Inv-loop μ-loop
-loop-holds c = (omega arith, c .node-count .ensures, pow-pos (c .before .before .before .before .args .n), bit-none)
+loop-holds c = (omega arith, c .node-count .ensures, pow-pos (c .before .before .before .before .args .n), bit-zero)
 
 input-bit-requires : tie.Need-input-bit-requires Inv-loop μ-loop
 input-bit-requires c κs = let s = c .before .before .before .before .before .before in (s .pre .0, (s .pre .1 .0, (s .pre .1 .1, omega (arith, c .loop-test .taken, c .before .loop .inv .1))))
