@@ -19,11 +19,11 @@ use Rattle.meaning.specs.Rules.Comparison.{sameAnswer}
 use Rattle.meaning.specs.Rules.Separation.{isMarked, runCleared, crosses}
 use Rattle.meaning.specs.Claims.Terms.{asRun, asCleared}
 use Rattle.meaning.specs.Laws.WordLaws.{bit-lt, bit-above, bit-mod}
-use Rattle.bits.specs.Bit.{bit-zero, bit-and, bit-or, bit-not, bit-ext}
+use Rattle.bits.specs.Bit.{bit-zero, bit-and, bit-or, bit-ext}
 use Rattle.subsets.specs.Among.{Among, among-le, among-bit, bits-among, cut-among}
 use Rattle.input_bits.specs.Seen.{toBit, IsMask}
 use Rattle.crossings.specs.Depends.{AgreeOn, same-answer}
-use Rattle.crossings.specs.Driven.{driven-at, undriven-at, cleared-is}
+use Rattle.crossings.specs.Driven.{driven-at, undriven-at, cleared-is, without-bit}
 
 module _ (t : Tree) (n run : ℕ) where
   -- a crossing at or below j, in a block
@@ -138,8 +138,8 @@ module _ (t : Tree) (n run : ℕ) where
 
     free-bit : (v : ℕ) → v < s → bitAt (bitAnd inputs (ones 64 - run) % 2 ^ s) v ≡ min (bitAt inputs v) (1 - bitAt run v)
     free-bit v h =
-        bit-mod (bitAnd inputs (ones 64 - run)) s v h ∙ bit-and inputs (ones 64 - run) v
-        ∙ ap (min (bitAt inputs v)) (bit-not 64 run v (omega (arith, marks, pow-mono few)) (omega arith))
+        bit-mod (bitAnd inputs (ones 64 - run)) s v h
+        ∙ without-bit inputs run v (omega (arith, marks, pow-mono few)) (omega arith)
 
     marked-bit : (v : ℕ) → v < s → bitAt (bitAnd inputs run % 2 ^ s) v ≡ min (bitAt inputs v) (bitAt run v)
     marked-bit v h = bit-mod (bitAnd inputs run) s v h ∙ bit-and inputs run v

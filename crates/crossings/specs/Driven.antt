@@ -1,6 +1,6 @@
 -- "bit v drives variable v, for 2^n assignments": an assignment of the n declared variables, and the same with its run bits
 -- cleared, told by the bits of their numbers.
-use Prim.Native.Nat.{ℕ, zero, suc, _/_, _^_, _≤_, _<_}
+use Prim.Native.Nat.{ℕ, zero, suc, min, _-_, _/_, _^_, _≤_, _<_}
 use mathlib.Core.Path.{_≡_, refl, sym, ap, fun-ext, _∙_}
 use mathlib.Core.List.{List, [], _∷_, _++_}
 use mathlib.Core.Bool.{Bool, true, false, cond}
@@ -9,13 +9,15 @@ use native.Mathlib.Decide.{decLt}
 use lib.ListN.{length}
 use lib.Dec.{eqb}
 use lib.Pow.{shr-shr}
+use lib.Bits.{bitAnd}
 use borrow.Author.Tests.{eq-eqb, lt-ltb, le-ltb}
-use Rattle.meaning.specs.Rules.Words.{bitAt}
+use Rattle.meaning.specs.Rules.Words.{bitAt, ones}
 use Rattle.meaning.specs.Rules.Assignments.{drive, upto, isIn}
 use Rattle.meaning.specs.Rules.Separation.{isMarked, runCleared}
 use Rattle.meaning.specs.Laws.BoolLaws.{true-false}
 use Rattle.meaning.specs.Laws.WordLaws.{bit-above}
 use Rattle.meaning.specs.Laws.AssignmentLaws.{drive-other, in-upto, upto-length}
+use Rattle.bits.specs.Bit.{bit-and, bit-not}
 
 -- ---- variables in front of others, and behind them
 drive-before : (xs ys : List ℕ) (i v : ℕ) → isIn v xs ≡ true → drive (xs ++ ys) i v ≡ drive xs i v
@@ -61,3 +63,7 @@ module _ (n run : ℕ) (below : run < 2 ^ n) where
       go v (no h) =
           let unmarked : isMarked run v ≡ false = ap (λ (b : ℕ). eqb b 1) (bit-above run n v below (omega arith)) in
           rw unmarked (undriven-at n i v (omega arith) ∙ sym (undriven-at n c v (omega arith)))
+
+-- the word of i without its run bits, in words of 64 bits
+pub without-bit : (i run v : ℕ) → run < 2 ^ 64 → v < 64 → bitAt (bitAnd i (ones 64 - run)) v ≡ min (bitAt i v) (1 - bitAt run v)
+without-bit i run v small h = bit-and i (ones 64 - run) v ∙ ap (min (bitAt i v)) (bit-not 64 run v small h)

@@ -27,12 +27,7 @@ module _ (t : Tree) (n run : ℕ) where
 
   -- assignment 0 is its own cleared self
   pub none-of-none : run < 2 ^ n → NoneOf 0
-  none-of-none marks = lowest-only (crosses t n run) (2 ^ 0) (2 ^ 0) (record {
-    after = omega arith;
-    within = omega arith;
-    passes = λ l. absurd (omega arith);
-    before = λ j a b. let e : j ≡ 0 = omega (arith, b) in rw e own;
-  })
+  none-of-none marks = lowest-none (crosses t n run) (2 ^ 0) (λ j b. let e : j ≡ 0 = omega (arith, b) in rw e own)
     where
       zeros : (b : Bool) → cond b 0 0 ≡ zero
       zeros true = refl

@@ -19,12 +19,11 @@ use Rattle.meaning.specs.Rules.Assignments.{upto, drive}
 use Rattle.meaning.specs.Rules.Separation.{isMarked, runCleared, crossingIndex, separated, crossingAt, separateTree}
 use Rattle.meaning.specs.Laws.WordLaws.{bit-lt}
 use Rattle.meaning.specs.Laws.AssignmentLaws.{upto-length}
-use Rattle.bits.specs.Bit.{bit-and, bit-not}
 use Rattle.inputs.specs.Inputs.{selected-below}
 use Rattle.inputs.specs.Driving.{Drivable}
 use Rattle.inputs.specs.Room.{undrivenBytes, undriven-length, fresh-undriven}
 use Rattle.input_bits.specs.Seen.{IsMask}
-use Rattle.crossings.specs.Driven.{cleared-is}
+use Rattle.crossings.specs.Driven.{cleared-is, without-bit}
 use Rattle.crossings.specs.Lowest.{answerAt}
 use Rattle.crossings.specs.Searching.{Searchable}
 
@@ -37,7 +36,7 @@ module _ (t : Tree) (n run : ℕ) where
   -- i with its run bits cleared, in words of 64 bits
   module _ (marks : run < 2 ^ n) (few : n ≤ 64) (i : ℕ) where
     cleared-bit : (v : ℕ) → v < n → bitAt (bitAnd i (ones 64 - run)) v ≡ cond (isMarked run v) 0 (bitAt i v)
-    cleared-bit v h = bit-and i (ones 64 - run) v ∙ ap (min (bitAt i v)) (bit-not 64 run v (omega (arith, marks, pow-mono few)) (omega arith)) ∙ go (isMarked run v) refl
+    cleared-bit v h = without-bit i run v (omega (arith, marks, pow-mono few)) (omega arith) ∙ go (isMarked run v) refl
       where
         go : (b : Bool) → isMarked run v ≡ b → min (bitAt i v) (1 - bitAt run v) ≡ cond b 0 (bitAt i v)
         go true e = omega (arith, eqb-true (bitAt run v) 1 e)
