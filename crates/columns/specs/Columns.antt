@@ -29,6 +29,37 @@ valueColumn = 3
 abbrev pub classColumn : ℕ
 classColumn = 4
 
+-- ---- those of the canonicaliser
+abbrev pub homeColumn : ℕ
+homeColumn = 2
+
+abbrev pub kindColumn : ℕ
+kindColumn = 3
+
+abbrev pub datumColumn : ℕ
+datumColumn = 4
+
+abbrev pub countColumn : ℕ
+countColumn = 5
+
+abbrev pub operandColumn : ℕ
+operandColumn = 6
+
+abbrev pub numberColumn : ℕ
+numberColumn = 12
+
+abbrev pub programColumn : ℕ
+programColumn = 13
+
+abbrev pub listedColumn : ℕ
+listedColumn = 14
+
+abbrev pub stackColumn : ℕ
+stackColumn = 0
+
+abbrev pub nextColumn : ℕ
+nextColumn = 1
+
 -- column q of the n rows from `base` on holds f 0, f 1, …
 abbrev pub Column : List ℕ → ℕ → ℕ → ℕ → (ℕ → ℕ) → Type 0
 Column work q base n f = (i : ℕ) → i < n → cell work q (base + i) ≡ f i

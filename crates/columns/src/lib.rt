@@ -24,6 +24,38 @@ pub const VALUE: usize = 3;
 // the lowest node with the same tree (classes, specs/Classes, `classAt`)
 pub const CLASS: usize = 4;
 
+// ---- the canonicaliser's: it answers and compares nothing, so it has the columns behind the shapes to itself
+
+// the node whose row holds this node's normal form: itself, or the operand that a Lut of program 2 stands for
+pub const HOME: usize = 2;
+
+// the kind word of the normal form
+pub const KIND: usize = 3;
+
+// its datum; a Lut's program
+pub const DATUM: usize = 4;
+
+// its children, a Lut's Program not counted
+pub const COUNT: usize = 5;
+
+// a Lut's operands, by their homes: this column and the five behind it
+pub const OPERAND: usize = 6;
+
+// 0 a node not met yet, 1 one on the path that is being walked, else 2 + its number in the list that is made
+pub const NUMBER: usize = 12;
+
+// the number of a Lut's Program in that list
+pub const PROGRAM_NUMBER: usize = 13;
+
+// the nodes of that list, two to a row: this column and the one behind it
+pub const LISTED: usize = 14;
+
+// the path from the root to where the walk is, a node a row, and the child that is next at each. The marks and the
+// shapes have served by then.
+pub const STACK: usize = 0;
+
+pub const NEXT: usize = 1;
+
 // Inner: the word in a column of a row.
 pub fn get(work: &[u64], column: usize, row: usize) -> u64
     requires { ⌜ place column row < length (now work) ⌝ }

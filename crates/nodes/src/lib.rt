@@ -1,6 +1,7 @@
 // A node's words (document 01, "The node list": "nodes, three words each (kind, first, count)"). The plain meaning is
 // that of meaning's Rules/Trees (`nodeCount`, `kindAt`, `firstAt`, `countAt`, `datumAt`), and each accessor's
-// contract is an equation with it. No other file says where in the list a word stands.
+// contract is an equation with it. No other file says where in the list a word is read; the words of a list that is made
+// are stored by list_output's `put_node`.
 use meaning::kinds::PROGRAM;
 use meaning::kinds::VARIABLE;
 use meaning::limits::WORDS_PER_NODE;
@@ -9,7 +10,7 @@ ghost use Prim.Native.Nat.{_+_, _*_, _^_, _<_};
 ghost use Rattle.meaning.specs.Rules.Trees.{nodeCount, kindAt, firstAt, countAt, datumAt};
 
 // a Program's halves have 32 bits each
-const HALF: u64 = 4294967296;
+pub const HALF: u64 = 4294967296;
 
 // A word as a number to index with. That it stays below 2^32 is what keeps first + count from wrapping.
 pub fn wide(x: u32) -> usize

@@ -13,18 +13,20 @@ use Rattle.meaning.specs.Rules.Layout.{layoutFault}
 use Rattle.meaning.specs.Rules.Reach.{markOf}
 use Rattle.meaning.specs.Rules.Verification.{verifyFault}
 use Rattle.meaning.specs.Rules.Evaluable.{shapeFault}
+use Rattle.meaning.specs.Rules.Canonical.{gateFault}
 use Rattle.meaning.specs.Laws.NumberLaws.{lowest-exactly, all-done, lowest-zero}
 use Rattle.lists.specs.Laid.{Laid}
 use Rattle.columns.specs.Columns.{markColumn, shapeColumn, Column}
 use Rattle.shapes.specs.Shapes.{shapeAt}
 use Rattle.search.specs.declared.Test.{Test}
-use Rattle.search.specs.declared.Test.the-variants.{Layout, Verification, Evaluability}
+use Rattle.search.specs.declared.Test.the-variants.{Layout, Verification, Evaluability, Gates}
 
 -- a node's fault in a test
 abbrev pub faultOf : Test → List ℕ → List ℕ → ℕ → ℕ
 faultOf Layout = layoutFault
 faultOf Verification = verifyFault
 faultOf Evaluability = shapeFault
+faultOf Gates = gateFault
 
 -- the work space has rows for the list, and its marks, or its shapes, in their column
 pub record Marked (ns ps : List ℕ) (base : ℕ) (work : List ℕ) : Type 0 where
@@ -40,6 +42,7 @@ abbrev pub Ready : Test → List ℕ → List ℕ → ℕ → List ℕ → Type 
 Ready Layout ns ps base work = Unit
 Ready Verification ns ps base work = Marked ns ps base work
 Ready Evaluability ns ps base work = Marked ns ps base work × Shaped ns ps base work
+Ready Gates ns ps base work = Marked ns ps base work × Shaped ns ps base work
 
 -- ---- the search
 module _ (n : ℕ) (fault : ℕ → ℕ) where

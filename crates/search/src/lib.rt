@@ -1,14 +1,17 @@
 // "at the lowest faulty node": one search from node 0 on, for every test that is made node by node (document 01,
 // "Order"). The plain meaning is meaning's Rules/Refusals, `atLowest`, of the faults of that test (specs/Search,
-// `faultOf`); the verifier calls `lowest_fault` with the test that is meant, since Rattle has no function values.
+// `faultOf`); the verifier and the canonicaliser call `lowest_fault` with the test that is meant, since Rattle has no function values.
 use columns::MARK;
+use columns::SHAPE;
 use columns::get;
 use faults::verify_fault;
 use lists::layout::layout_fault;
 use meaning::Refusal;
 use meaning::numbers::DONE;
+use nodes::kind_of;
 use nodes::node_count;
 use shapes::fit::shape_fault;
+use shapes::gate::gate_fault;
 ghost use mathlib.Core.Path.{_≡_};
 ghost use Prim.Native.Nat.{_<_, _≤_};
 ghost use Rattle.meaning.specs.Rules.Limits.{mostNodes};
@@ -16,11 +19,12 @@ ghost use Rattle.meaning.specs.Rules.Trees.{nodeCount};
 ghost use Rattle.meaning.specs.Rules.Refusals.{atLowest};
 ghost use Rattle.search.specs.Search.{Ready, faultOf};
 
-// The tests: numbers 3 to 5, number 6, number 8
+// The tests: numbers 3 to 5, number 6, number 8, number 14
 pub enum Test {
     Layout,
     Verification,
     Evaluability,
+    Gates,
 }
 
 // Inner: the lowest node with a fault, and its number; done where there is none.
@@ -55,5 +59,10 @@ fn fault_at(test: Test, nodes: &[u32], pool: &[u32], base: usize, work: &[u64], 
         Test::Layout => layout_fault(nodes, pool, i),
         Test::Verification => verify_fault(nodes, pool, i, get(work, MARK, base + i)),
         Test::Evaluability => shape_fault(nodes, pool, base, work, i, get(work, MARK, base + i)),
+        Test::Gates => {
+            let mark = get(work, MARK, base + i);
+            let shape = get(work, SHAPE, base + i);
+            gate_fault(kind_of(nodes, i), mark, shape)
+        }
     }
 }

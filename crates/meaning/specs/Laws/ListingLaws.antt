@@ -45,7 +45,7 @@ word-at at (t ∷ ts) (suc i) w h l =
     rw e (getD-append-add (nodeAt at t) rest (i * wordsPerNode + w) 0) ∙ word-at (at + length (trees (children t))) ts i w (omega arith) l
 
 -- ---- the pool's part of node i
-numbers-length : (all : List Tree) (t : Tree) → length (childNumbers all t) ≡ length (trees (children t))
+pub numbers-length : (all : List Tree) (t : Tree) → length (childNumbers all t) ≡ length (trees (children t))
 numbers-length all t = length-map (trees (children t)) (numberIn all)
 
 pool-part : (all : List Tree) (at : ℕ) (ts : List Tree) (i : ℕ) → i < length ts → (old : List ℕ) → length old ≡ at
@@ -68,7 +68,7 @@ part-fits all at (t ∷ ts) (suc i) h =
     omega (arith, length-append (childNumbers all t) (poolWords all ts), numbers-length all t, part-fits all (at + length (trees (children t))) ts i (omega arith))
 
 -- ---- what a list of trees has
-pub Has : List Tree → Tree → Type 0
+unfoldable pub Has : List Tree → Tree → Type 0
 Has ts t = (j : ℕ) × (j < length ts) × (nthTree ts j ≡ t)
 
 abbrev pub AllHas : List Tree → Forest → Type 0
@@ -76,7 +76,7 @@ AllHas ts none = Unit {0}
 AllHas ts (c ◂ cs) = Has ts c × AllHas ts cs
 
 -- each tree's children stand before it
-pub Ordered : List Tree → Type 0
+unfoldable pub Ordered : List Tree → Type 0
 Ordered ts = (i : ℕ) → i < length ts → AllHas (take i ts) (children (nthTree ts i))
 
 -- a property of every tree of the list
@@ -92,7 +92,7 @@ abbrev mutual
   DeepAll P none = Unit {0}
   DeepAll P (t ◂ ts) = Deep P t × DeepAll P ts
 
-some-has : (t : Tree) (ts : List Tree) → some (same t) ts ≡ true → Has ts t
+pub some-has : (t : Tree) (ts : List Tree) → some (same t) ts ≡ true → Has ts t
 unfolding Has
 some-has t [] h = absurd (true-false h refl)
 some-has t (u ∷ ts) h = go (same t u) refl (some-has t ts)
@@ -103,7 +103,7 @@ some-has t (u ∷ ts) h = go (same t u) refl (some-has t ts)
 
 -- ---- keeping a tree
 module _ (t : Tree) (seen : List Tree) where
-  nth-old : (j : ℕ) → j < length seen → nthTree (seen ++ (t ∷ [])) j ≡ nthTree seen j
+  pub nth-old : (j : ℕ) → j < length seen → nthTree (seen ++ (t ∷ [])) j ≡ nthTree seen j
   nth-old j h = List·getD-append seen (t ∷ []) stump j h
 
   pub nth-new : nthTree (seen ++ (t ∷ [])) (length seen) ≡ t
@@ -120,11 +120,11 @@ module _ (t : Tree) (seen : List Tree) where
       go true e = rw e (p (some-has t seen e))
       go false e = rw e q
 
-  old-has : (x : Tree) → Has seen x → Has (seen ++ (t ∷ [])) x
+  pub old-has : (x : Tree) → Has seen x → Has (seen ++ (t ∷ [])) x
   unfolding Has
   old-has x h = (h .0, omega (arith, h .1, one-more), nth-old (h .0) (h .1) ∙ h .2)
 
-  keep-has : Has (keep t seen) t
+  pub keep-has : Has (keep t seen) t
   unfolding Has
   keep-has = kept (λ l. Has l t) (λ h. h) (length seen, omega (arith, one-more), nth-new)
 
@@ -140,7 +140,7 @@ module _ (t : Tree) (seen : List Tree) where
           let e : j ≡ length seen = omega (arith, one-more) in
           subst (λ (x : ℕ). P (nthTree (seen ++ (t ∷ [])) x)) (sym e) (subst P (sym nth-new) p)
 
-  keep-ordered : Ordered seen → AllHas seen (children t) → Ordered (keep t seen)
+  pub keep-ordered : Ordered seen → AllHas seen (children t) → Ordered (keep t seen)
   unfolding Ordered
   keep-ordered o a = kept Ordered (λ k. o) (λ i l. go i l (decLt i (length seen)))
     where
@@ -158,25 +158,25 @@ all-has-grows ts us f none a = tt
 all-has-grows ts us f (c ◂ cs) a = (f c (a .0), all-has-grows ts us f cs (a .1))
 
 mutual
-  visit-old : (t : Tree) (seen : List Tree) (x : Tree) → Has seen x → Has (visit t seen) x
+  pub visit-old : (t : Tree) (seen : List Tree) (x : Tree) → Has seen x → Has (visit t seen) x
   visit-old (node k d cs) seen x h = keep-old (node k d cs) (visitAll cs seen) x (visitAll-old cs seen x h)
 
-  visitAll-old : (ts : Forest) (seen : List Tree) (x : Tree) → Has seen x → Has (visitAll ts seen) x
+  pub visitAll-old : (ts : Forest) (seen : List Tree) (x : Tree) → Has seen x → Has (visitAll ts seen) x
   visitAll-old none seen x h = h
   visitAll-old (t ◂ ts) seen x h = visitAll-old ts (visit t seen) x (visit-old t seen x h)
 
-visit-has : (t : Tree) (seen : List Tree) → Has (visit t seen) t
+pub visit-has : (t : Tree) (seen : List Tree) → Has (visit t seen) t
 visit-has (node k d cs) seen = keep-has (node k d cs) (visitAll cs seen)
 
-visitAll-has : (ts : Forest) (seen : List Tree) → AllHas (visitAll ts seen) ts
+pub visitAll-has : (ts : Forest) (seen : List Tree) → AllHas (visitAll ts seen) ts
 visitAll-has none seen = tt
 visitAll-has (t ◂ ts) seen = (visitAll-old ts (visit t seen) t (visit-has t seen), visitAll-has ts (visit t seen))
 
 mutual
-  visit-ordered : (t : Tree) (seen : List Tree) → Ordered seen → Ordered (visit t seen)
+  pub visit-ordered : (t : Tree) (seen : List Tree) → Ordered seen → Ordered (visit t seen)
   visit-ordered (node k d cs) seen o = keep-ordered (node k d cs) (visitAll cs seen) (visitAll-ordered cs seen o) (visitAll-has cs seen)
 
-  visitAll-ordered : (ts : Forest) (seen : List Tree) → Ordered seen → Ordered (visitAll ts seen)
+  pub visitAll-ordered : (ts : Forest) (seen : List Tree) → Ordered seen → Ordered (visitAll ts seen)
   visitAll-ordered none seen o = o
   visitAll-ordered (t ◂ ts) seen o = visitAll-ordered ts (visit t seen) (visit-ordered t seen o)
 
