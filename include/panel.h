@@ -120,6 +120,7 @@ enum panel_answer_words {
     PANEL_EVALUATE_WORDS = 2,
     PANEL_COMPARE_WORDS = 10,
     PANEL_SEPARATE_WORDS = 10,
+    PANEL_CANONICALIZE_WORDS = 4,
     PANEL_TABLE_WORDS = 3
 };
 
@@ -206,6 +207,28 @@ void panel_compare(const uint32_t *nodes1, size_t nodes1_len, const uint32_t *po
  */
 void panel_separate(const uint32_t *nodes, size_t nodes_len, const uint32_t *pool, size_t pool_len, uint32_t n,
                     uint32_t marks, uint64_t *work, size_t work_len, uint64_t answer[PANEL_SEPARATE_WORDS]);
+
+/*
+ * The canonical list of a list, written to two outputs. Mux, And, Xor, Nor and Not become Luts of programs 202, 8, 6, 1
+ * and 1; then each Lut is folded, those below it first, until nothing more can be: a constant operand is dropped, as is
+ * one that no row depends on, and a Lut that is a constant or its only operand gives way to it. The list holds each
+ * distinct subtree below the root once, Programs included, children before parents, left to right; the children of a
+ * node stand in the pool behind those of the node before it. Equal operands are not merged.
+ *
+ * out_nodes, out_pool: the canonical list's node words and pool entries, from the first place on. It may be longer than
+ * the given list: a Not has one child, its Lut two. PANEL_NODE_WORDS * PANEL_MOST_NODES words and PANEL_MOST_POOL entries
+ * hold any answer.
+ * answer: number, node; how many words of out_nodes the list takes, how many of out_pool. Refused, both are 0.
+ * Numbers in the order in which they are asked: 1, 2, 10; then 3 to 8 as in panel_evaluate; 14 at the lowest gate
+ * (PANEL_NOR to PANEL_NOT) that the root reaches and that is not a bit, be it folded away or not; 19 where an output is
+ * shorter than its part of the answer, or the canonical list is above PANEL_MOST_NODES nodes or PANEL_MOST_POOL entries,
+ * however long the outputs are. The node is 0 but for 3 to 6, 8 and 14.
+ * Left behind: the work space as said at panel_work_words; each output behind its part of the answer as it was, and all
+ * of both where the call refuses; nodes and pool are only read.
+ */
+void panel_canonicalize(const uint32_t *nodes, size_t nodes_len, const uint32_t *pool, size_t pool_len,
+                        uint32_t *out_nodes, size_t out_nodes_len, uint32_t *out_pool, size_t out_pool_len,
+                        uint64_t *work, size_t work_len, uint64_t answer[PANEL_CANONICALIZE_WORDS]);
 
 /* ---- truth tables */
 

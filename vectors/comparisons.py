@@ -70,8 +70,23 @@ def expect_ways(answer, first, second, rng, count=3):
 model_tree = model.Tree
 
 
+class OneOfItsKind(model_tree):
+    """A tree that is equal to no other: told apart from all, and found in a dictionary, without a look at what is below
+    it."""
+    __slots__ = ()
+
+    def __eq__(self, other):
+        return self is other
+
+    def __ne__(self, other):
+        return self is not other
+
+    def __hash__(self):
+        return id(self)
+
+
 class Trees:
-    """Trees of which there is only one of each, so that equal ones are the same and unequal ones soon told apart."""
+    """Trees of which there is only one of each, so that equal ones are the same."""
 
     def __init__(self):
         self.made = {}
@@ -79,7 +94,7 @@ class Trees:
     def make(self, kind, datum, children):
         key = (kind, datum, *map(id, children))
         if key not in self.made:
-            self.made[key] = model_tree(kind, datum, children)
+            self.made[key] = OneOfItsKind(kind, datum, children)
         return self.made[key]
 
 
@@ -102,7 +117,7 @@ def kept(function):
 @contextlib.contextmanager
 def each_tree_once():
     """The model follows every path. Within this it makes each tree once and answers it once: no rule is another."""
-    names = ("answer", "shape", "variables")
+    names = ("answer", "shape", "variables", "canonical")
     whole = {name: getattr(model, name) for name in names}
     model.Tree = Trees().make
     for name in names:

@@ -11,8 +11,9 @@ How it is written, so that a slip made elsewhere is not made here again:
   the assignments that are left;
 - a refusal is an exception, so the order of the refusals is the order of the lines that raise them.
 
-It follows every path, so it is for small lists. Each call takes what it is lent as lists of numbers and gives back its
-answer words, the work space as it is afterwards, and the outputs as they are afterwards. Nothing given is changed.
+It follows every path, so it is for small lists; within `each_tree_once` of comparisons.py it goes by node, and longer
+ones will do. Each call takes what it is lent as lists of numbers and gives back its answer words, the work space as it
+is afterwards, and the outputs as they are afterwards. Nothing given is changed.
 """
 import itertools
 from collections import namedtuple

@@ -7,6 +7,7 @@ int main(void)
 {
     lists_by_hand();
     separations_by_hand();
+    canonicals_by_hand();
     tables_by_hand();
     return end_cases();
 }

@@ -10,6 +10,10 @@ void lists_by_hand(void);
 /* Separations: examples, and n, marks and variables just inside and outside their bounds. */
 void separations_by_hand(void);
 
+/* The canonicaliser: examples, what folding leaves, the gates that it refuses, and outputs just long enough and just too
+ * short. */
+void canonicals_by_hand(void);
+
 /* The truth-table routines: examples, and arguments just inside and outside their ranges. */
 void tables_by_hand(void);
 

@@ -1,7 +1,6 @@
 #include "by_hand_calls.h"
 
 #include "report.h"
-#include "tries.h"
 
 /* ---- calls */
 
@@ -77,6 +76,47 @@ void separate_refuses(const char *name, const struct list *list, uint32_t n, uin
 }
 
 const uint64_t separate[PANEL_SEPARATE_WORDS] = {PANEL_DONE, 0, PANEL_SEPARATE, 0, 0, 0, 0, 0, 0, 0};
+
+struct canonical_room room_of(const struct list *list, size_t words, size_t entries)
+{
+    struct canonical_room room;
+    room.work = work_of(list);
+    room.words = words;
+    room.entries = entries;
+    return room;
+}
+
+static void canonicalize_within(const char *name, const struct list *list, struct canonical_room room,
+                                struct expected_list expected)
+{
+    uint64_t answer[PANEL_CANONICALIZE_WORDS] = {PANEL_DONE, 0, 0, 0};
+    struct canonical canonical;
+    answer[2] = expected.words;
+    answer[3] = expected.entries;
+    canonical.nodes = expected.nodes;
+    canonical.pool = expected.pool;
+    begin_case(name);
+    try_canonicalize(list, room, answer, 1, canonical);
+}
+
+void canonicalize_is(const char *name, const struct list *list, struct expected_list expected)
+{
+    canonicalize_within(name, list, room_of(list, expected.words, expected.entries), expected);
+    canonicalize_within(name, list, room_of(list, expected.words + 1, expected.entries), expected);
+    canonicalize_within(name, list, room_of(list, expected.words, expected.entries + 1), expected);
+    canonicalize_within(name, list, room_of(list, expected.words + 7, expected.entries + 9), expected);
+}
+
+void canonicalize_refuses(const char *name, const struct list *list, struct canonical_room room, uint64_t number,
+                          uint64_t node)
+{
+    uint64_t answer[PANEL_CANONICALIZE_WORDS] = {0, 0, 0, 0};
+    const struct canonical nothing = {NULL, NULL};
+    answer[0] = number;
+    answer[1] = node;
+    begin_case(name);
+    try_canonicalize(list, room, answer, is_cleared(number), nothing);
+}
 
 /* ---- lists */
 

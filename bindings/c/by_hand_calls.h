@@ -5,6 +5,7 @@
 #include "lent.h"
 #include "list.h"
 #include "panel.h"
+#include "tries.h"
 
 /* ---- calls; where no length is said the work space is just enough */
 
@@ -31,6 +32,23 @@ void separate_refuses(const char *name, const struct list *list, uint32_t n, uin
                       uint64_t number, uint64_t node);
 
 extern const uint64_t separate[PANEL_SEPARATE_WORDS];
+
+/* A canonical list: node words, pool entries. */
+struct expected_list {
+    const uint64_t *nodes;
+    size_t words;
+    const uint64_t *pool;
+    size_t entries;
+};
+
+/* Outputs that are just enough, then each longer than that. */
+void canonicalize_is(const char *name, const struct list *list, struct expected_list expected);
+
+void canonicalize_refuses(const char *name, const struct list *list, struct canonical_room room, uint64_t number,
+                          uint64_t node);
+
+/* Just enough work space, and outputs of these lengths. */
+struct canonical_room room_of(const struct list *list, size_t words, size_t entries);
 
 /* ---- lists */
 

@@ -36,6 +36,14 @@ static struct list list_of(const struct sample *sample)
     return copied_list(sample->nodes, sample->words, sample->pool, sample->entries);
 }
 
+/* One word of work space too little. */
+static struct canonical_room little_room(const struct list *list)
+{
+    struct canonical_room room = room_of(list, 30, 30);
+    room.work--;
+    return room;
+}
+
 static void try_sample(const struct sample *sample, const struct list *variable, const struct lent *bytes)
 {
     struct list list = list_of(sample);
@@ -49,11 +57,14 @@ static void try_sample(const struct sample *sample, const struct list *variable,
     compare_refuses(sample->name, &list, variable, both, number, node);
     compare_refuses(sample->name, variable, &list, both, number, node);
     separate_refuses(sample->name, &list, 30, 1, work, number, node);
+    canonicalize_refuses(sample->name, &list, room_of(&list, 0, 0), number, node);
+    canonicalize_refuses(sample->name, &list, room_of(&list, 30, 30), number, node);
     if (work > 0 && number != PANEL_NOT_ALIGNED) {
         verify_is(sample->name, &list, work - 1, PANEL_LITTLE_WORK, 0);
         evaluate_refuses(sample->name, &list, bytes, work - 1, out, PANEL_LITTLE_WORK, 0);
         compare_refuses(sample->name, &list, variable, both - 1, PANEL_LITTLE_WORK, 0);
         separate_refuses(sample->name, &list, 30, 1, work - 1, PANEL_LITTLE_WORK, 0);
+        canonicalize_refuses(sample->name, &list, little_room(&list), PANEL_LITTLE_WORK, 0);
     }
     give_list_back(&list);
 }
@@ -77,14 +88,19 @@ static void limit_is(const char *name, size_t node_count, size_t entries, uint64
 {
     struct list list = zeros(node_count, entries);
     struct list one = zeros(1, 0);
+    const uint64_t low[] = {PANEL_CONST, 0, 0};
+    const struct expected_list root = {low, COUNT(low), NULL, 0};
     verify_is(name, &list, work_of(&list), number, 0);
     if (number == PANEL_DONE) {
         compare_is(name, &list, &one, equiv);
         separate_is(name, &list, 0, 0, separate);
+        canonicalize_is(name, &list, root);
     } else {
         compare_refuses(name, &list, &one, work_of(&list) + work_of(&one), number, 0);
         compare_refuses(name, &one, &list, 0, number, 0);
         separate_refuses(name, &list, 31, 1, 0, number, 0);
+        canonicalize_refuses(name, &list, room_of(&list, 3, 0), number, 0);
+        canonicalize_refuses(name, &list, room_of(&one, 0, 0), number, 0);
     }
     give_list_back(&list);
     give_list_back(&one);

@@ -3,8 +3,9 @@
  * bindings/test has renamed to whole_panel_.., and then changes one bit of what the call was lent or beside it.
  *
  * The environment variable PANEL_DAMAGE says where: a part and a place, as in work:last. The parts are nodes, pool,
- * bytes, work, out and answer, and nodes2 and pool2 of a comparison; the places are before (the byte in front), first,
- * middle, last, and behind (the byte after it). A part that is empty has no first, middle or last byte.
+ * bytes, work, out and answer, nodes2 and pool2 of a comparison, and out_nodes and out_pool of a canonicaliser; the places
+ * are before (the byte in front), first, middle, last, and behind (the byte after it). A part that is empty has no first,
+ * middle or last byte.
  */
 #include "panel.h"
 
@@ -115,6 +116,22 @@ void panel_separate(const uint32_t *nodes, size_t nodes_len, const uint32_t *poo
     damage_list(nodes, nodes_len, pool, pool_len);
     damage_words("work", work, work_len);
     damage_words("answer", answer, PANEL_SEPARATE_WORDS);
+}
+
+void whole_panel_canonicalize(const uint32_t *, size_t, const uint32_t *, size_t, uint32_t *, size_t, uint32_t *, size_t,
+                              uint64_t *, size_t, uint64_t *);
+
+void panel_canonicalize(const uint32_t *nodes, size_t nodes_len, const uint32_t *pool, size_t pool_len,
+                        uint32_t *out_nodes, size_t out_nodes_len, uint32_t *out_pool, size_t out_pool_len,
+                        uint64_t *work, size_t work_len, uint64_t answer[PANEL_CANONICALIZE_WORDS])
+{
+    whole_panel_canonicalize(nodes, nodes_len, pool, pool_len, out_nodes, out_nodes_len, out_pool, out_pool_len, work,
+                             work_len, answer);
+    damage_list(nodes, nodes_len, pool, pool_len);
+    damage("out_nodes", out_nodes, out_nodes_len * sizeof *out_nodes);
+    damage("out_pool", out_pool, out_pool_len * sizeof *out_pool);
+    damage_words("work", work, work_len);
+    damage_words("answer", answer, PANEL_CANONICALIZE_WORDS);
 }
 
 void whole_panel_eval_lut(uint64_t, const uint8_t *, size_t, uint64_t *);

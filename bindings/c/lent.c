@@ -62,6 +62,17 @@ struct lent lend_pattern(const char *name, size_t count)
     return lent;
 }
 
+struct lent lend_pattern32(const char *name, size_t count)
+{
+    struct lent lent = lend(name, count, sizeof(uint32_t));
+    size_t i;
+    for (i = 0; i < count; i++) {
+        lent_u32(&lent)[i] = ((uint32_t)1 << 31) + (uint32_t)i;
+    }
+    keep(&lent);
+    return lent;
+}
+
 struct lent lend_read_u32(const char *name, size_t count)
 {
     struct lent lent = lend(name, count, sizeof(uint32_t));

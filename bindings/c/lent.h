@@ -21,6 +21,9 @@ struct lent lend(const char *name, size_t count, size_t element);
 /* The same, words of 2^63, 2^63 + 1, ..: none is 0 or a state, and no two are alike. */
 struct lent lend_pattern(const char *name, size_t count);
 
+/* The same, words of 32 bits: 2^31, 2^31 + 1, .. */
+struct lent lend_pattern32(const char *name, size_t count);
+
 /* The elements from the next words of the cases. */
 struct lent lend_read_u32(const char *name, size_t count);
 struct lent lend_read_u8(const char *name, size_t count);

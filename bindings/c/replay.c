@@ -3,11 +3,11 @@
  * which of them differ: in an answer word, in what is left in lent memory, or in a word that stands around it. It stops when
  * ten differ.
  *
- * usage: replay tables | verify | evaluate | compare | separate < crates/replay_.../stdin
+ * usage: replay tables | verify | evaluate | compare | separate | canonicalise < crates/replay_.../stdin
  * The status is 0 where there were cases and none differs, 1 where one does, 2 where the cases can not be read.
  *
- * What stands in a line is said in vectors/tables.py, verify.py, evaluate.py, compare.py and separate.py, which make
- * them.
+ * What stands in a line is said in vectors/tables.py, verify.py, evaluate.py, compare.py, separate.py and canonicalise.py,
+ * which make them.
  */
 #include "lent.h"
 #include "list.h"
@@ -70,14 +70,15 @@ static void expect_root(const uint64_t *root, const uint64_t *pairs, size_t pair
     }
 }
 
-static uint64_t *read_pairs(size_t count)
+/* So many words that are expected, in memory of their own. */
+static uint64_t *read_expected(size_t count)
 {
-    uint64_t *pairs = (uint64_t *)malloc((count + 1) * sizeof(uint64_t));
-    if (pairs == NULL) {
-        bad_text("there is no memory for its pairs");
+    uint64_t *words = (uint64_t *)malloc((count + 1) * sizeof(uint64_t));
+    if (words == NULL) {
+        bad_text("there is no memory for what is expected");
     }
-    next_words(pairs, count);
-    return pairs;
+    next_words(words, count);
+    return words;
 }
 
 /* words entries bytes work out, number node, state width value of the root, cleared, nodes, pool, bytes, and where the
@@ -106,7 +107,7 @@ static void replay_evaluate(void)
     if (pair_words > out_len) {
         bad_text("the pairs have no place in the output");
     }
-    pairs = read_pairs(pair_words);
+    pairs = read_expected(pair_words);
     if (answer[0] == PANEL_DONE) {
         expect_root(root, pairs, pair_words);
     }
@@ -155,6 +156,56 @@ static void replay_separate(void)
     give_list_back(&list);
 }
 
+static struct canonical_room read_room(void)
+{
+    struct canonical_room room;
+    room.work = next_length();
+    room.words = next_length();
+    room.entries = next_length();
+    return room;
+}
+
+/* The outputs have room for what is expected of them, and only an answer is compared. */
+static void expect_room(struct canonical_room room, const uint64_t *answer, int compared)
+{
+    if (answer[2] > room.words || answer[3] > room.entries) {
+        bad_text("the canonical list has no place in the outputs");
+    }
+    if (compared && answer[0] != PANEL_DONE) {
+        bad_text("there is a verdict on a refusal");
+    }
+}
+
+/* words entries work out_words out_entries, number node node_words pool_words, verdict, cleared, nodes, pool, and where
+ * the number is 0 the canonical list's nodes and pool; a verdict of 3 is not asked */
+static void replay_canonicalise(void)
+{
+    enum { NOT_ASKED = 3 };
+    size_t words = next_length();
+    size_t entries = next_length();
+    struct canonical_room room = read_room();
+    uint64_t answer[PANEL_CANONICALIZE_WORDS];
+    uint64_t verdict;
+    int cleared;
+    struct list list;
+    struct canonical canonical;
+    next_words(answer, PANEL_CANONICALIZE_WORDS);
+    verdict = next_word(NOT_ASKED);
+    cleared = (int)next_word(1);
+    expect_room(room, answer, verdict != NOT_ASKED);
+    list = read_list(words, entries);
+    canonical.nodes = read_expected((size_t)answer[2]);
+    canonical.pool = read_expected((size_t)answer[3]);
+    if (verdict == NOT_ASKED) {
+        try_canonicalize(&list, room, answer, cleared, canonical);
+    } else {
+        try_canonicalize_and_compare(&list, room, answer, canonical, (enum panel_verdict)verdict);
+    }
+    free((void *)canonical.nodes);
+    free((void *)canonical.pool);
+    give_list_back(&list);
+}
+
 /* ---- all cases */
 
 struct capability {
@@ -168,6 +219,7 @@ static const struct capability capabilities[] = {
     {"evaluate", replay_evaluate},
     {"compare", replay_compare},
     {"separate", replay_separate},
+    {"canonicalise", replay_canonicalise},
 };
 
 static const struct capability *named(const char *name)
@@ -185,7 +237,7 @@ int main(int count, char **arguments)
 {
     const struct capability *capability = count == 2 ? named(arguments[1]) : NULL;
     if (capability == NULL) {
-        puts("usage: replay tables | verify | evaluate | compare | separate < CASES");
+        puts("usage: replay tables | verify | evaluate | compare | separate | canonicalise < CASES");
         return 2;
     }
     while (word_follows() && !enough_differ()) {

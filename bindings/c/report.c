@@ -52,6 +52,17 @@ void expect_words(const char *what, const uint64_t *got, const uint64_t *expecte
     }
 }
 
+void expect_words32(const char *what, const uint32_t *got, const uint64_t *expected, size_t count)
+{
+    size_t i;
+    for (i = 0; i < count; i++) {
+        if (got[i] != expected[i]) {
+            word_fault(what, i, got[i], expected[i]);
+            return;
+        }
+    }
+}
+
 int enough_differ(void)
 {
     return differing >= MOST_DIFFERING;

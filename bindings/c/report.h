@@ -14,6 +14,9 @@ void fault(const char *what, const char *how);
 /* A fault at the first word that differs. */
 void expect_words(const char *what, const uint64_t *got, const uint64_t *expected, size_t count);
 
+/* The same of words of 32 bits. */
+void expect_words32(const char *what, const uint32_t *got, const uint64_t *expected, size_t count);
+
 /* Whether so many cases differ that it is no use to go on. */
 int enough_differ(void);
 

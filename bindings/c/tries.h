@@ -4,6 +4,7 @@
 
 #include "lent.h"
 #include "list.h"
+#include "panel.h"
 
 /* `cleared` is whether the work space is to be all zeros afterwards, and otherwise unchanged. */
 void try_verify(const struct list *list, size_t work_len, const uint64_t *answer, int cleared);
@@ -17,6 +18,27 @@ void try_compare(const struct list *first, const struct list *second, size_t wor
 
 void try_separate(const struct list *list, uint32_t n, uint32_t marks, size_t work_len, const uint64_t *answer,
                   int cleared);
+
+/* How much is lent to a canonicaliser: work space, and places of the two outputs. */
+struct canonical_room {
+    size_t work;
+    size_t words;
+    size_t entries;
+};
+
+/* A canonical list that is expected; as many words of each as the answer says. */
+struct canonical {
+    const uint64_t *nodes;
+    const uint64_t *pool;
+};
+
+/* What is behind the list in either output is to be unchanged. */
+void try_canonicalize(const struct list *list, struct canonical_room room, const uint64_t *answer, int cleared,
+                      struct canonical canonical);
+
+/* The same, and then a comparison of the given list with what was written. */
+void try_canonicalize_and_compare(const struct list *list, struct canonical_room room, const uint64_t *answer,
+                                  struct canonical canonical, enum panel_verdict verdict);
 
 enum table_routine {
     EVAL_LUT,

@@ -6,7 +6,8 @@
 //! was refused with [`Number::NotAligned`], [`Number::OverLimit`] or [`Number::LittleWork`].
 //!
 //! ```
-//! use panel::{compare, evaluate, separate, verify, work_for, Answer, Check, Judgement, List, NodeAnswer};
+//! use panel::{canonicalize, compare, evaluate, separate, verify, work_for};
+//! use panel::{Answer, Check, Judgement, List, NodeAnswer};
 //!
 //! // And(v0, v1), and v0 alone
 //! let gate = List { nodes: &[3, 0, 0, 3, 1, 0, 6, 0, 2], pool: &[0, 1] };
@@ -31,6 +32,14 @@
 //! assert_eq!(separation.index, 3);
 //! assert_eq!(separation.run, Answer::Value { width: 1, value: 1 });
 //! assert_eq!(separation.cleared, Answer::Value { width: 1, value: 0 });
+//!
+//! // in canonical form the gate is a lookup table of program 8
+//! let (mut nodes, mut pool) = ([0; 20], [0; 20]);
+//! let canonical = canonicalize(gate, &mut work, &mut nodes, &mut pool)?;
+//! assert_eq!(canonical.nodes, [1, 8, 0, 3, 0, 0, 3, 1, 0, 9, 0, 3]);
+//! assert_eq!(canonical.pool, [0, 1, 2]);
+//! let mut work = vec![0; work_for(&[gate, canonical])];
+//! assert_eq!(compare(gate, canonical, &mut work)?.verdict, Check::Equiv);
 //! # Ok::<(), panel::Error>(())
 //! ```
 //!
@@ -46,7 +55,7 @@ mod raw;
 mod tables;
 
 pub use answers::{Answer, Check, Comparison, Evaluation, Failure, Judgement, NodeAnswer, Separation};
-pub use lists::{compare, evaluate, separate, verify, work_for, List};
+pub use lists::{canonicalize, compare, evaluate, separate, verify, work_for, List};
 pub use numbers::{Error, Foreign, Number, Refusal};
 pub use tables::{
     cofactors_in_msb, eval_lut, eval_lut_bv, eval_lut_const_input, remove_lsb_var, swap_pos, to_bitvec, BitVector,

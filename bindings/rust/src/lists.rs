@@ -126,3 +126,42 @@ pub fn separate(list: List, n: u32, marks: u32, work: &mut [u64]) -> Result<Sepa
     done_or_refused(number, node)?;
     Separation::of(words)
 }
+
+/// The canonical list of a list: gates as lookup tables, these folded as far as they go, each distinct subtree once. It is
+/// written from the first place of each output on, and handed back as these parts of them, ready for another call.
+///
+/// 12,288 words and 16,384 entries hold any answer. What is behind it is left as it was, and all of both outputs where the
+/// call is refused. Refused with 1, 2, 10, then 3 to 8, then 14: a gate that the root reaches and that is not a bit; then
+/// 19: an output that is too short, or a canonical list above the limits, however long the outputs are.
+pub fn canonicalize<'a>(
+    list: List,
+    work: &mut [u64],
+    out_nodes: &'a mut [u32],
+    out_pool: &'a mut [u32],
+) -> Result<List<'a>, Error> {
+    let mut answer = [0; 4];
+    // SAFETY: each pointer stands with its slice's own length, and the answer block has as many words as the call writes.
+    unsafe {
+        raw::panel_canonicalize(
+            list.nodes.as_ptr(),
+            list.nodes.len(),
+            list.pool.as_ptr(),
+            list.pool.len(),
+            out_nodes.as_mut_ptr(),
+            out_nodes.len(),
+            out_pool.as_mut_ptr(),
+            out_pool.len(),
+            work.as_mut_ptr(),
+            work.len(),
+            &mut answer,
+        );
+    }
+    let [number, node, node_words, pool_words] = answer;
+    done_or_refused(number, node)?;
+    Ok(List { nodes: written(out_nodes, node_words)?, pool: written(out_pool, pool_words)? })
+}
+
+/// The part of an output that an answer says was written; more than there is, is foreign.
+fn written(out: &[u32], words: u64) -> Result<&[u32], Foreign> {
+    usize::try_from(words).ok().and_then(|count| out.get(..count)).ok_or(Foreign(words))
+}

@@ -52,6 +52,20 @@ extern "C" {
         answer: *mut [u64; 10],
     );
 
+    pub(crate) fn panel_canonicalize(
+        nodes: *const u32,
+        nodes_len: usize,
+        pool: *const u32,
+        pool_len: usize,
+        out_nodes: *mut u32,
+        out_nodes_len: usize,
+        out_pool: *mut u32,
+        out_pool_len: usize,
+        work: *mut u64,
+        work_len: usize,
+        answer: *mut [u64; 4],
+    );
+
     pub(crate) fn panel_eval_lut(p: u64, inputs: *const u8, inputs_len: usize, answer: *mut [u64; 3]);
     pub(crate) fn panel_eval_lut_bv(p: u64, inputs: *const u8, inputs_len: usize, answer: *mut [u64; 3]);
     pub(crate) fn panel_to_bitvec(p: u64, capacity: u64, answer: *mut [u64; 3]);

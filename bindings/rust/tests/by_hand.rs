@@ -1,8 +1,8 @@
 //! Calls that are written out by hand: every number that a call can answer with, slices of length 0, and document 01's
 //! examples.
 use panel::{
-    compare, evaluate, separate, verify, work_for, Answer, Check, Comparison, Error, Failure, Judgement, List,
-    NodeAnswer, Number, Refusal, Separation,
+    canonicalize, compare, evaluate, separate, verify, work_for, Answer, Check, Comparison, Error, Failure, Judgement,
+    List, NodeAnswer, Number, Refusal, Separation,
 };
 
 const EMPTY: List = List { nodes: &[], pool: &[] };
@@ -79,6 +79,8 @@ fn a_faulty_list_is_refused_by_every_call() {
         assert_eq!(separated(list, 30, 1), Err(other), "{list:?}");
         // every other number comes before 11
         assert_eq!(separated(list, 31, 0), Err(other), "{list:?}");
+        // and before 19
+        assert_eq!(canonicalize(list, &mut work(&[list]), &mut [], &mut []), Err(other), "{list:?}");
     }
 }
 
@@ -90,6 +92,7 @@ fn a_list_over_the_limits_is_refused() {
         assert_eq!(root(list, &[]), Err(refused(Number::OverLimit, 0)));
         assert_eq!(compared(VARIABLE, list), Err(refused(Number::OverLimit, 0)));
         assert_eq!(separated(list, 31, 0), Err(refused(Number::OverLimit, 0)));
+        assert_eq!(canonicalize(list, &mut [], &mut [], &mut []), Err(refused(Number::OverLimit, 0)));
     }
     assert_eq!(verified(List { nodes: &nodes[3..], pool: &pool[1..] }), Ok(()));
 }
@@ -101,6 +104,7 @@ fn too_little_work_space_is_refused_and_left_alone() {
     assert_eq!(evaluate(AND, &[], &mut short, &mut [0; 6]), Err(refused(Number::LittleWork, 0)));
     assert_eq!(compare(AND, EMPTY, &mut short), Err(refused(Number::LittleWork, 0)));
     assert_eq!(separate(AND, 31, 0, &mut short), Err(refused(Number::LittleWork, 0)));
+    assert_eq!(canonicalize(AND, &mut short, &mut [0; 12], &mut [0; 3]), Err(refused(Number::LittleWork, 0)));
     assert!(short.iter().all(|word| *word == 7));
 }
 
@@ -175,6 +179,7 @@ fn empty_slices_can_be_lent() {
     assert_eq!(evaluate(EMPTY, &[], &mut [], &mut []), Err(refused(Number::NoRoot, 0)));
     assert_eq!(compare(EMPTY, EMPTY, &mut []), Err(refused(Number::NoRoot, 0)));
     assert_eq!(separate(EMPTY, 0, 0, &mut []), Err(refused(Number::NoRoot, 0)));
+    assert_eq!(canonicalize(EMPTY, &mut [], &mut [], &mut []), Err(refused(Number::NoRoot, 0)));
     assert_eq!(panel::eval_lut(1, &[]), Ok(panel::LutBit::Bit(true)));
     assert_eq!(panel::eval_lut_bv(2, &[]), Ok(panel::LutBit::Bit(false)));
 }

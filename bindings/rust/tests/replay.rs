@@ -1,7 +1,7 @@
 //! Replays the recorded cases of every capability through the safe calls: the answers, what is left in work space and
 //! output, and the words beside them. What stands in a line is said in vectors/tables.py, verify.py, evaluate.py,
-//! compare.py and separate.py. That nothing which is lent to be read changes is tried by bindings/c/replay.c; Rust takes
-//! it for granted.
+//! compare.py, separate.py and canonicalise.py. That nothing which is lent to be read changes is tried by
+//! bindings/c/replay.c; Rust takes it for granted.
 mod support;
 
 use panel::{Evaluation, Foreign, List};
@@ -108,6 +108,43 @@ fn separate(words: &mut Words) -> Vec<String> {
     faults
 }
 
+const NOT_ASKED: u64 = 3;
+
+/// The list as it was written, and what a comparison of the given list with it says, where that is asked.
+fn canonical_faults(given: List, got: List, expected: List, verdict: u64) -> Vec<String> {
+    let mut faults: Vec<String> = same("wrote", got, expected).into_iter().collect();
+    if verdict != NOT_ASKED {
+        let mut work = Lent::new("work space", panel::work_for(&[given, got]));
+        let found = words_of::comparison(panel::compare(given, got, work.part()));
+        faults.extend(same("compares as", found.map(|words| [words[0], words[2]]), Ok([0, verdict])));
+    }
+    faults
+}
+
+fn canonicalise(words: &mut Words) -> Vec<String> {
+    let (node_words, entries) = (words.length(), words.length());
+    let mut work: Lent<u64> = Lent::new("work space", words.length());
+    let mut out_nodes: Lent<u32> = Lent::new("output of nodes", words.length());
+    let mut out_pool: Lent<u32> = Lent::new("output of the pool", words.length());
+    let expected: [u64; 2] = words.block();
+    let (written_nodes, written_pool) = (words.length(), words.length());
+    let verdict = words.word();
+    let cleared = words.flag();
+    let (nodes, pool) = (words.words32(node_words), words.words32(entries));
+    let (canonical_nodes, canonical_pool) = (words.words32(written_nodes), words.words32(written_pool));
+    let given = List { nodes: &nodes, pool: &pool };
+    let canonical = List { nodes: &canonical_nodes, pool: &canonical_pool };
+    let got = panel::canonicalize(given, work.part(), out_nodes.part(), out_pool.part());
+    let mut faults: Vec<String> = same("answered", words_of::done(&got), Ok(expected)).into_iter().collect();
+    if let Ok(list) = got {
+        faults.extend(canonical_faults(given, list, canonical, verdict));
+    }
+    faults.extend(work.faults(0, cleared));
+    faults.extend(out_nodes.faults(written_nodes, false));
+    faults.extend(out_pool.faults(written_pool, false));
+    faults
+}
+
 #[test]
 fn replay_tables() {
     replay("tables", table);
@@ -131,4 +168,9 @@ fn replay_compare() {
 #[test]
 fn replay_separate() {
     replay("separate", separate);
+}
+
+#[test]
+fn replay_canonicalise() {
+    replay("canonicalise", canonicalise);
 }

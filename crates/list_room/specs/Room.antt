@@ -13,6 +13,9 @@ poolRoom = 16400
 abbrev pub workRoom : ℕ
 workRoom = 98400
 
+abbrev pub pairWorkRoom : ℕ
+pairWorkRoom = 200000
+
 -- so many zeros, not written out
 unfoldable pub zeros : ℕ → List ℕ
 zeros n = replicate n 0

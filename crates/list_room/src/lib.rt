@@ -12,6 +12,9 @@ pub const POOL_ROOM: usize = 16400;
 
 pub const WORK_ROOM: usize = 98400;
 
+// Room for the work space that two such lists ask together, "summed over the lists brought"
+pub const PAIR_WORK_ROOM: usize = 200000;
+
 // Room for the text that a replay reads its cases from, two megabytes
 pub const TEXT_ROOM: usize = 2097152;
 
@@ -33,6 +36,12 @@ pub fn work_room() -> [u64; WORK_ROOM]
     ensures { λ r. ⌜ r ≡ zeros 98400 ⌝ }
 {
     [0; WORK_ROOM]
+}
+
+pub fn pair_work_room() -> [u64; PAIR_WORK_ROOM]
+    ensures { λ r. ⌜ r ≡ zeros 200000 ⌝ }
+{
+    [0; PAIR_WORK_ROOM]
 }
 
 pub fn text_room() -> [u8; TEXT_ROOM]

@@ -1,4 +1,6 @@
 // The calls over node lists. A block begins with the number and the node of the refusal; 0 and 0 are done.
+use canonical_words::four_words;
+use canonicaliser::canonicalize_expr;
 use comparer::func_equiv;
 use comparison_words::ten_words;
 use evaluator::eval;
@@ -10,6 +12,7 @@ ghost use Rattle.meaning.specs.Rules.Calls as calls;
 ghost use Rattle.panel_c.specs.Words.{refusalWords};
 ghost use Rattle.comparison_words.specs.Words.{comparisonWords};
 ghost use Rattle.separation_words.specs.Words.{separationWords};
+ghost use Rattle.canonical_words.specs.Words.{canonicalWords};
 
 // `verify_expr`: number, node.
 #[no_mangle]
@@ -73,4 +76,24 @@ pub extern "C" fn panel_separate(
 {
     let separation = separate(nodes, pool, n, marks, work);
     *answer = separation_words::ten_words(separation);
+}
+
+// `canonicalize_expr`: number, node, how many node words the canonical list has and how many pool entries. The list
+// stands at the start of the two output slices.
+#[no_mangle]
+pub extern "C" fn panel_canonicalize(
+    nodes: &[u32],
+    pool: &[u32],
+    out_nodes: &mut [u32],
+    out_pool: &mut [u32],
+    work: &mut [u64],
+    answer: &mut [u64; 4],
+)
+    ensures { λ _. ⌜ now (answer .exit) ≡ canonicalWords (calls.canonicalise (now (nodes .entry)) (now (pool .entry)) (now (work .entry)) (now («out_nodes» .entry)) (now («out_pool» .entry)) .answer) ⌝ }
+    ensures { λ _. ⌜ now (work .exit) ≡ calls.canonicalise (now (nodes .entry)) (now (pool .entry)) (now (work .entry)) (now («out_nodes» .entry)) (now («out_pool» .entry)) .work ⌝ }
+    ensures { λ _. ⌜ now («out_nodes» .exit) ≡ calls.canonicalise (now (nodes .entry)) (now (pool .entry)) (now (work .entry)) (now («out_nodes» .entry)) (now («out_pool» .entry)) .outNodes ⌝ }
+    ensures { λ _. ⌜ now («out_pool» .exit) ≡ calls.canonicalise (now (nodes .entry)) (now (pool .entry)) (now (work .entry)) (now («out_nodes» .entry)) (now («out_pool» .entry)) .outPool ⌝ }
+{
+    let canonical = canonicalize_expr(nodes, pool, work, out_nodes, out_pool);
+    *answer = four_words(canonical);
 }

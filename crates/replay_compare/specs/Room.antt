@@ -1,13 +1,10 @@
 -- That there is room for what a case asks.
-use Prim.Native.Nat.{ℕ, _≤_}
+use Prim.Native.Nat.{_≤_}
 use mathlib.Core.Bool.{Bool, true, false, not}
 use mathlib.Core.Path.{_≡_, subst}
 use borrow.Author.Tests.{not-false}
-use Rattle.list_room.specs.Room.{nodeRoom, poolRoom}
+use Rattle.list_room.specs.Room.{nodeRoom, poolRoom, pairWorkRoom}
 use Rattle.replay_compare.specs.declared.cases.Sizes.{Sizes}
-
-abbrev pub workRoom : ℕ
-workRoom = 200000
 
 -- there is room for two lists so long
 abbrev pub FitsLists : Sizes → Type 0
@@ -16,7 +13,7 @@ FitsLists s =
 
 -- and for so much work space
 abbrev pub FitsSpace : Sizes → Type 0
-FitsSpace s = s .work ≤ workRoom
+FitsSpace s = s .work ≤ pairWorkRoom
 
 abbrev pub FitsRoom : Sizes → Type 0
 FitsRoom s = FitsLists s × FitsSpace s

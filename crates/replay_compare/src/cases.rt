@@ -5,10 +5,10 @@
 //   2 Inconclusive; the answers are those of the first list and of the second
 // Behind the row stand the node words and the pool entries of the first list, and behind those the second's, each below
 // 2^32.
-use super::room::WORK_ROOM;
 use decimals::Row;
 use decimals::next_row;
 use list_room::NODE_ROOM;
+use list_room::PAIR_WORK_ROOM;
 use list_room::POOL_ROOM;
 use replay_results::Expected;
 use replay_results::ROW_WORDS;
@@ -85,7 +85,7 @@ fn has_room(sizes: Sizes) -> bool
     if sizes.second_entries > POOL_ROOM {
         return false;
     }
-    if sizes.work > WORK_ROOM {
+    if sizes.work > PAIR_WORK_ROOM {
         return false;
     }
     true

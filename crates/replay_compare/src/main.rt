@@ -3,7 +3,6 @@
 // of the work space. The cases are made by vectors/compare.py, which has the answers from a model of document 01.
 mod cases;
 mod lists;
-mod room;
 
 use cases::Case;
 use cases::Header;
@@ -14,6 +13,7 @@ use lent_words::fill;
 use lent_words::is_left;
 use list_room::TEXT_ROOM;
 use list_room::node_room;
+use list_room::pair_work_room;
 use list_room::pool_room;
 use list_room::text_room;
 use list_words::Entries;
@@ -24,7 +24,6 @@ use replay_report::report;
 use replay_report::too_long;
 use replay_results::Expected;
 use replay_results::judged;
-use room::work_room;
 ghost use Prim.Native.Nat.{_+_, _≤_};
 ghost use lib.ListN.{length};
 ghost use Rattle.replay_compare.specs.Room.{FitsLists, FitsSpace};
@@ -63,7 +62,7 @@ fn with_space(
     requires { ⌜ FitsSpace (case .sizes) ⌝ }
     ensures { λ r. ⌜ r ≤ 1 ⌝ }
 {
-    let mut work = work_room();
+    let mut work = pair_work_room();
     let words = case.sizes.work;
     called(
         number,

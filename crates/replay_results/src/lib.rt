@@ -1,5 +1,6 @@
 // A call that answers ten words (`result_words`: a comparison or a separation), in a replay: what a case expects of it,
-// whether that is what was seen, and how the difference is told. The plain meaning is specs/Results.antt.
+// whether that is what was seen, and how the difference is told. The plain meaning is specs/Results.antt. Beside it
+// `alike`, which a replay of another call uses too.
 //
 // Such a case begins with a row of sixteen decimal words:
 //   0 to 4 what is lent and what is asked, as each replay says
@@ -14,7 +15,7 @@ use libc::STDOUT_FILENO;
 use replay_report::told_answer;
 use replay_report::told_refusal;
 use replay_report::told_work;
-use words::alike;
+pub use words::alike;
 ghost use mathlib.Core.Path.{_≡_};
 ghost use Prim.Native.Nat.{_≤_};
 ghost use Rattle.replay_results.specs.Results.{expectedOf, expectedWords, asExpected, differs};

@@ -2,7 +2,7 @@
 ghost use mathlib.Core.Path.{_≡_};
 ghost use Rattle.replay_results.specs.Alike as words;
 
-pub(crate) fn alike(one: &[u64], other: &[u64]) -> bool
+pub fn alike(one: &[u64], other: &[u64]) -> bool
     ensures { λ r. ⌜ r ≡ words.alike (now (one .entry)) (now (other .entry)) ⌝ }
 {
     if one.len() != other.len() {

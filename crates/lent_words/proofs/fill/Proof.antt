@@ -1,6 +1,6 @@
 -- `fill` meets its contract. The invariant: the places passed, with those to come filled, are as all are to be.
 use Rattle.lent_words.specs.LentLaws.{filledFrom, filled-more, filled-whole}
-use Rattle.lent_words.specs.Lent.{filled}
+use Rattle.lent_words.specs.Lent.{wide, filled}
 use borrow.Author.Needs.{needs}
 use native.Mathlib.Omega.{arith}
 use lib.ListN.{length, length-set}
@@ -10,7 +10,7 @@ use Rattle.lent_words.proofs.fill.Statement.{statement}
 use Rattle.lent_words.proofs.fill.Tie as tie
 
 abbrev Inv-loop : tie.InvT-loop
-Inv-loop words₀ place₀ place-end words place = (place ≤ place-end) × (place-end ≡ length words₀) × (length words ≡ length words₀) × (filledFrom words place ≡ filled 0 words₀)
+Inv-loop words₀ place₀ place-end words place = (place ≤ place-end) × (place-end ≡ length words₀) × (length words ≡ length words₀) × (filledFrom wide words place ≡ filled wide 0 words₀)
 
 abbrev μ-loop : tie.MeasureT-loop
 μ-loop words₀ place₀ place-end words place = place-end - place
@@ -35,14 +35,14 @@ loop-less c = search needs
 
 loop-again : tie.Need-loop-again Inv-loop μ-loop
 loop-again c = let l = c .before .before .loop in
-    (omega arith, l .inv .1, simp length-set (l .inv .2), rw (c .before2 .ensures) (sym (filled-more (l .words) (l .place) (omega arith)) ∙ l .inv .3))
+    (omega arith, l .inv .1, simp length-set (l .inv .2), rw (c .before2 .ensures) (sym (filled-more wide (l .words) (l .place) (omega arith)) ∙ l .inv .3))
 
 same-length : tie.Need-same-length Inv-loop μ-loop
 same-length c = search needs
 
 returns : tie.Need-returns Inv-loop μ-loop
 returns c = let l = c .before .loop in
-    sym (filled-whole (l .words) (l .place) (omega arith)) ∙ l .inv .3
+    sym (filled-whole wide (l .words) (l .place) (omega arith)) ∙ l .inv .3
 
 pub fill-spec : {M : Type 1} → statement M
 fill-spec =

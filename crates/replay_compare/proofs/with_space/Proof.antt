@@ -6,8 +6,8 @@ use borrow.Author.Needs.{needs}
 use Rattle.replay_compare.proofs.with_space.Statement.{statement}
 use Rattle.replay_compare.proofs.with_space.Tie as tie
 
-work-room-requires : tie.Need-work-room-requires
-work-room-requires c κs = search needs
+pair-work-room-requires : tie.Need-pair-work-room-requires
+pair-work-room-requires c κs = search needs
 
 array-borrow-prefix-work : tie.Need-array-borrow-prefix-work
 array-borrow-prefix-work c = search needs
@@ -15,7 +15,7 @@ array-borrow-prefix-work c = search needs
 slice-aggregate-called : tie.Need-slice-aggregate-called
 slice-aggregate-called c =
     let s = c .before .before .before .before .before .before in
-    sym (length-take-le (s .args .case .sizes .work) (c .before .work-room .result) (omega (arith, s .pre)))
+    sym (length-take-le (s .args .case .sizes .work) (c .before .pair-work-room .result) (omega (arith, s .pre)))
 
 called-requires : tie.Need-called-requires
 called-requires c κs = search needs
@@ -27,7 +27,7 @@ pub with-space-spec : {M : Type 1} → statement M
 with-space-spec =
     tie.close
     (tie.spec
-    work-room-requires
+    pair-work-room-requires
     array-borrow-prefix-work
     slice-aggregate-called
     called-requires

@@ -1,0 +1,2 @@
+-- the words of what the canonicaliser answers
+pub mod Words
