@@ -1,6 +1,6 @@
 -- A list that 3 to 8 and 14 let pass: what the passes find in the work space, and how many words the list takes.
 use Prim.Native.Nat.{ℕ, _*_, _≤_}
-use mathlib.Core.Path.{_≡_}
+use mathlib.Core.Path.{_≡_, _∙_}
 use mathlib.Core.List.{List}
 use mathlib.Core.Bool.{true, _&&_}
 use native.Mathlib.Omega.{arith}
@@ -20,7 +20,7 @@ use Rattle.rows.specs.Rows.{Prepared}
 use Rattle.pass.specs.Prepared.{sound-prepares}
 use Rattle.listed.specs.Listing.{Listing}
 use Rattle.list_output.specs.Canonical.{listing-words}
-use Rattle.canonicaliser.specs.Outcome.{acceptedRow, fitWords}
+use Rattle.canonicaliser.specs.Outcome.{acceptedRow, fitRow, fitWords, row-fits}
 
 module _ (ns ps work : List ℕ) (room : workPerNode * nodeCount ns ≤ length work) where
   -- past 8: what 14 is asked with
@@ -46,25 +46,30 @@ module _ {ns ps work : List ℕ} {count : ℕ} (l : Listing ns ps work count) wh
       rw (e, node-number, listing-words l)
 
 -- ---- what fits
-module _ (count entries outNodes outPool : ℕ) (fits : fitWords count entries outNodes outPool ≡ true) where
-  pub record Room : Type 0 where
-    pub nodes : count * wordsPerNode ≤ outNodes
-    pub pool : entries ≤ outPool
-    pub few : count ≤ mostNodes
-    pub short : entries ≤ mostPool
+pub record Room (count entries outNodes outPool : ℕ) : Type 0 where
+  pub nodes : count * wordsPerNode ≤ outNodes
+  pub pool : entries ≤ outPool
+  pub few : count ≤ mostNodes
+  pub short : entries ≤ mostPool
 
-  pub fits-room : Room
-  unfolding fitWords
-  fits-room =
-      let a = leb (count * wordsPerNode) outNodes in
-      let b = leb entries outPool in
-      let c = leb count mostNodes in
-      let d = leb entries mostPool in
-      let abc = and-left (a && b && c) d fits in
-      let ab = and-left (a && b) c abc in
-      record {
-        nodes = leb-true (count * wordsPerNode) outNodes (and-left a b ab);
-        pool = leb-true entries outPool (and-right a b ab);
-        few = leb-true count mostNodes (and-right (a && b) c abc);
-        short = leb-true entries mostPool (and-right (a && b && c) d fits);
-      }
+fits-room : (count entries outNodes outPool : ℕ) → fitWords count entries outNodes outPool ≡ true → Room count entries outNodes outPool
+unfolding fitWords
+fits-room count entries outNodes outPool fits =
+    let a = leb (count * wordsPerNode) outNodes in
+    let b = leb entries outPool in
+    let c = leb count mostNodes in
+    let d = leb entries mostPool in
+    let abc = and-left (a && b && c) d fits in
+    let ab = and-left (a && b) c abc in
+    record {
+      nodes = leb-true (count * wordsPerNode) outNodes (and-left a b ab);
+      pool = leb-true entries outPool (and-right a b ab);
+      few = leb-true count mostNodes (and-right (a && b) c abc);
+      short = leb-true entries mostPool (and-right (a && b && c) d fits);
+    }
+
+-- past 19
+pub row-room : {ns ps work : List ℕ} {count : ℕ} → Listing ns ps work count → (outNodes outPool entries : ℕ) → entries ≡ length (canonicalPool ns ps)
+    → fitRow ns ps outNodes outPool .number ≡ 0 → Room count entries outNodes outPool
+row-room {ns} {ps} {work} {count} l outNodes outPool entries e done =
+    fits-room count entries outNodes outPool (fits-told l outNodes outPool entries e ∙ row-fits ns ps outNodes outPool done)

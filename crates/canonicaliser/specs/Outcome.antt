@@ -75,6 +75,11 @@ module _ (ns ps : List ℕ) where
   unfolding canonical
   canonical-done r n p h e f = rw (eq-eqb (r .number) 0 h, e, f)
 
+  -- 19 lets pass what fits
+  pub row-fits : (outNodes outPool : ℕ) → fitRow ns ps outNodes outPool .number ≡ 0 → fitsLists ns ps outNodes outPool ≡ true
+  row-fits outNodes outPool =
+      require-passed (fitsLists ns ps outNodes outPool) 18 {P = fitsLists ns ps outNodes outPool ≡ true} ((λ e. e), (λ e. e)) .when .0
+
   -- ---- past 14 the rest is 19
   pub rest-accepted : (outNodes outPool : ℕ) → acceptedRow ns ps .number ≡ 0 → fitRow ns ps outNodes outPool ≡ restRow ns ps outNodes outPool
   rest-accepted outNodes outPool h = sym (then-go (acceptedRow ns ps) (fitRow ns ps outNodes outPool) h)
@@ -146,8 +151,7 @@ module _ (ns ps work outNodes outPool : List ℕ) (c : Canonical) (left nodes po
       let two = then-rest (room (workFor ns ps) (length work)) (sound ns ps then gates ns ps then fit) one in
       let three = then-rest (sound ns ps) (gates ns ps then fit) two in
       let four = then-rest (gates ns ps) fit three in
-      require-passed (fitsLists ns ps (length outNodes) (length outPool)) 18 {P = fitsLists ns ps (length outNodes) (length outPool) ≡ true} ((λ e. e), (λ e. e))
-      .when .0 (eqb-true (fit .number) 0 four)
+      row-fits ns ps (length outNodes) (length outPool) (eqb-true (fit .number) 0 four)
 
   counted : (b : Bool) → isDone whole ≡ b
       → (cond b (length (canonicalNodes ns ps)) 0 ≤ length outNodes) × (cond b (length (canonicalPool ns ps)) 0 ≤ length outPool)

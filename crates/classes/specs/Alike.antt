@@ -3,7 +3,7 @@ use Prim.Native.Nat.{ℕ, suc, _+_, _≤_, _<_}
 use mathlib.Core.Path.{_≡_, refl, sym, ap, ap₂, _∙_}
 use mathlib.Core.Logic.{_≢_}
 use mathlib.Core.List.{List, [], _∷_}
-use mathlib.Core.Bool.{Bool, true, false, _&&_}
+use mathlib.Core.Bool.{Bool, true, false, _&&_, and-false}
 use native.Mathlib.Omega.{arith}
 use native.Mathlib.Numerals.{add-one}
 use native.Mathlib.Nat.{zero-add}
@@ -33,10 +33,6 @@ sameClasses work base (c ∷ cs) (d ∷ ds) =
 abbrev pub Rows : List ℕ → ℕ → List ℕ → Type 0
 Rows work base cs = (i : ℕ) → i < length cs → place classColumn (base + getD cs i 0) < length work
 
-never : (b : Bool) → (b && false) ≡ false
-never true = refl
-never false = refl
-
 -- ---- a loop over both
 module _ (work : List ℕ) (base : ℕ) where
   pub classes-count : (cs ds : List ℕ) → length cs ≢ length ds → sameClasses work base cs ds ≡ false
@@ -45,7 +41,7 @@ module _ (work : List ℕ) (base : ℕ) where
   classes-count [] (d ∷ ds) h = refl
   classes-count (c ∷ cs) [] h = refl
   classes-count (c ∷ cs) (d ∷ ds) h =
-      rw (classes-count cs ds (λ e. h (ap suc e))) (never (eqb (cell work classColumn c) (cell work classColumn (base + d))))
+      rw (classes-count cs ds (λ e. h (ap suc e))) (and-false (eqb (cell work classColumn c) (cell work classColumn (base + d))))
 
   module _ (cs ds : List ℕ) (i : ℕ) where
     abbrev Alike : Bool → Type 0
@@ -118,12 +114,12 @@ module _ {ns ps : List ℕ} {i : ℕ} {ms qs : List ℕ} {base j : ℕ} {work : 
       (tree-at ms qs j (children-below ms qs j (f .list .sound .0 j (f .inside))))
 
   pub kinds-differ : kindAt ns i ≢ kindAt ms j → hasTree ns ps (treeOf ms qs j) i ≡ false
-  kinds-differ d = by-words ∙ rw (ne-eqb (kindAt ns i) (kindAt ms j) d) (never (ltb 0 (markOf ns ps i)))
+  kinds-differ d = by-words ∙ rw (ne-eqb (kindAt ns i) (kindAt ms j) d) (and-false (ltb 0 (markOf ns ps i)))
 
   pub data-differ : datumAt ns i ≢ datumAt ms j → hasTree ns ps (treeOf ms qs j) i ≡ false
   data-differ d =
       by-words
-      ∙ rw (ne-eqb (datumAt ns i) (datumAt ms j) d, never (eqb (kindAt ns i) (kindAt ms j))) (never (ltb 0 (markOf ns ps i)))
+      ∙ rw (ne-eqb (datumAt ns i) (datumAt ms j) d, and-false (eqb (kindAt ns i) (kindAt ms j))) (and-false (ltb 0 (markOf ns ps i)))
 
   pub not-reached : markOf ns ps i ≡ 0 → hasTree ns ps (treeOf ms qs j) i ≡ false
   not-reached e = by-words ∙ rw e

@@ -3,8 +3,7 @@
 // exactly when their trees are the same. The plain meaning is specs/Classes, `classOf` and `classAt`, and of the answer
 // meaning's Rules/Trees, `same`; the law that joins the two is `class-same`. A caller has two lists past number 8 with
 // their marks in the work space (specs/Ready, `Listed`), the second's rows behind the first's, and calls `deep_equals`;
-// what is written and what stays is specs/Both. Of one list alone `write_classes` with base 0 gives the same table, and
-// in it "each distinct subtree below the root" is one node, the one that is its own class.
+// what is written and what stays is specs/Both.
 // Every pair of nodes is looked at once at most, and of a pair as many children as both have (of a node that counts in
 // an accepted list 64 at most, the widest Bus); no path is walked.
 mod alike;

@@ -2,5 +2,7 @@
 pub mod From
 -- what a row holds of a node's normal form
 pub mod Forms
--- what stays of it when other columns are written
+-- forms stay where the rows that hold them stay
+pub mod Kept
+-- so they stay when other columns are written
 pub mod Same

@@ -75,9 +75,6 @@ pub record Placed (before after : List ℕ) (i : ℕ) (xs : List ℕ) (n : ℕ) 
   pub same : (q j : ℕ) → q < workPerNode → (j ≡ i → operandColumn ≤ q → q < numberColumn → ⊥) → cell after q j ≡ cell before q j
   pub stored : (j : ℕ) → j < n → cell after (operandColumn + j) i ≡ getD xs j 0
 
-pub placed-none : (work : List ℕ) (i : ℕ) (xs : List ℕ) → Placed work work i xs 0
-placed-none work i xs = record { size = refl; same = λ q j h apart. refl; stored = λ j h. absurd (omega arith) }
-
 pub placed-next : {before after : List ℕ} {i : ℕ} {xs : List ℕ} {n : ℕ} → Placed before after i xs n → n < mostOperands
     → workPerNode * i + workPerNode ≤ length before → Placed before (set after (place (operandColumn + n) i) (getD xs n 0)) i xs (n + 1)
 placed-next {before} {after} {i} {xs} {n} p few room = record {

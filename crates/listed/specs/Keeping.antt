@@ -4,7 +4,7 @@
 use Prim.Native.Nat.{ℕ, zero, suc, _+_, _≤_, _<_}
 use mathlib.Core.Path.{_≡_, refl, sym, ap, subst, _∙_}
 use mathlib.Core.List.{List, [], _∷_, _++_}
-use mathlib.Core.Bool.{Bool, true, false, _||_}
+use mathlib.Core.Bool.{Bool, true, false, or-true}
 use native.Mathlib.Omega.{arith}
 use native.Mathlib.Decide.{decLt}
 use lib.ListN.{length, take, length-take}
@@ -77,10 +77,6 @@ some-found : (t : Tree) (ts : List Tree) (j : ℕ) → j < length ts → nthTree
 some-found t [] j h e = absurd (omega arith)
 some-found t (u ∷ ts) zero h e = rw (eq-same t u (sym e))
 some-found t (u ∷ ts) (suc j) h e = rw (some-found t ts j (omega arith) e) (or-true (same t u))
-  where
-    or-true : (b : Bool) → (b || true) ≡ true
-    or-true true = refl
-    or-true false = refl
 
 module _ (t : Tree) (seen : List Tree) where
   pub keep-there : numberIn seen t < length seen → keep t seen ≡ seen

@@ -4,7 +4,7 @@ use Prim.Native.Nat.{ℕ, zero, suc, _+_, _/_, _%_, _≤_, _<_}
 use mathlib.Core.Path.{_≡_, refl, sym, ap, ap₂, _∙_}
 use mathlib.Core.Logic.{_↔_, _≢_}
 use mathlib.Core.List.{List, [], _∷_}
-use mathlib.Core.Bool.{Bool, true, false, cond, not, _&&_, _||_}
+use mathlib.Core.Bool.{Bool, true, false, cond, not, _&&_, _||_, and-false, and-true}
 use native.Mathlib.Omega.{arith}
 use native.Mathlib.Nat.{add-zero, zero-add}
 use lib.ListN.{length}
@@ -53,10 +53,6 @@ abbrev pub isForm : List ℕ → List ℕ → List ℕ → ℕ → ℕ → Bool
 isForm ns ps work h k = entryIsForm ns ps work h (listedAt work k)
 
 -- ---- trees by their words
-never : (a : Bool) → (a && false) ≡ false
-never true = refl
-never false = refl
-
 -- the tree of one row is that of another exactly if kind, datum and children are the same
 pub same-made : (k d k′ d′ : ℕ) (cs cs′ : Forest) → same (made k d cs) (made k′ d′ cs′) ≡ (eqb d d′ && (eqb k k′ && sameAll cs cs′))
 unfolding made
@@ -68,10 +64,6 @@ same-made k d k′ d′ cs cs′ = go (eqb k lutWord) refl (eqb k′ lutWord) re
     moved false true c = refl
     moved false false c = refl
 
-    always : (a : Bool) → (a && true) ≡ a
-    always true = refl
-    always false = refl
-
     apart : (a b : ℕ) → eqb a lutWord ≡ true → eqb b lutWord ≡ false → eqb a b ≡ false
     apart a b e f = ne-eqb a b (λ q. eqb-false b lutWord f (sym q ∙ eqb-true a lutWord e))
 
@@ -82,11 +74,11 @@ same-made k d k′ d′ cs cs′ = go (eqb k lutWord) refl (eqb k′ lutWord) re
         → same (cond b (node lutWord 0 (programOf d ◂ cs)) (node k d cs)) (cond b′ (node lutWord 0 (programOf d′ ◂ cs′)) (node k′ d′ cs′))
         ≡ (eqb d d′ && (eqb k k′ && sameAll cs cs′))
     go true e true e′ =
-        rw (eq-eqb k k′ (eqb-true k lutWord e ∙ sym (eqb-true k′ lutWord e′)), always (eqb d d′))
+        rw (eq-eqb k k′ (eqb-true k lutWord e ∙ sym (eqb-true k′ lutWord e′)), and-true (eqb d d′))
     go true e false e′ =
-        rw (apart k k′ e e′, never (eqb d d′)) (ap (λ (x : Bool). x && eqb 0 d′ && sameAll (programOf d ◂ cs) cs′) (apart lutWord k′ refl e′))
+        rw (apart k k′ e e′, and-false (eqb d d′)) (ap (λ (x : Bool). x && eqb 0 d′ && sameAll (programOf d ◂ cs) cs′) (apart lutWord k′ refl e′))
     go false e true e′ =
-        rw (apart′ k k′ e e′, never (eqb d d′)) (ap (λ (x : Bool). x && eqb d 0 && sameAll cs (programOf d′ ◂ cs′)) (apart′ k lutWord e refl))
+        rw (apart′ k k′ e e′, and-false (eqb d d′)) (ap (λ (x : Bool). x && eqb d 0 && sameAll cs (programOf d′ ◂ cs′)) (apart′ k lutWord e refl))
     go false e false e′ = moved (eqb k k′) (eqb d d′) (sameAll cs cs′)
 
 -- ---- children by their numbers
@@ -137,7 +129,7 @@ counts-differ : (tree : ℕ → Tree) (cs ds : List ℕ) → length cs ≢ lengt
 counts-differ tree [] [] h = absurd (h refl)
 counts-differ tree [] (d ∷ ds) h = refl
 counts-differ tree (c ∷ cs) [] h = refl
-counts-differ tree (c ∷ cs) (d ∷ ds) h = rw (counts-differ tree cs ds (λ e. h (ap suc e))) (never (same (tree c) (tree d)))
+counts-differ tree (c ∷ cs) (d ∷ ds) h = rw (counts-differ tree cs ds (λ e. h (ap suc e))) (and-false (same (tree c) (tree d)))
 
 both-two : (a b : ℕ) → eqb (a + 2) (b + 2) ≡ eqb a b
 both-two a b = go (eqb a b) refl
@@ -168,8 +160,7 @@ module _ {ns ps forms work : List ℕ} {seen : List Tree} {count : ℕ} (es : En
 
   pub kid-read : (h : ℕ) → Home ns ps forms h → (j : ℕ) → j < cell forms countColumn h → kidAt ns ps work h j ≡ kidAt ns ps forms h j
   kid-read h home j l =
-      same-kid (es .same) ns ps h j
-      (λ e. omega (arith, es .formed .forms h (home .inside) home .operands (eqb-true (cell forms kindColumn h) lutWord e)))
+      same-kid (es .same) (es .formed) (es .size) h j home l
 
   -- the form of a node that is a home
   abbrev kids : ℕ → Forest
@@ -207,12 +198,8 @@ module _ {ns ps forms work : List ℕ} {seen : List Tree} {count : ℕ} (es : En
       kinds true q = rw (eq-eqb programWord k (sym (eqb-true k programWord q)), program-kids h home (eqb-true k programWord q))
       kinds false q = rw (ne-eqb programWord k (λ r. eqb-false k programWord q (sym r)))
 
-      always : (a : Bool) → (a && true) ≡ a
-      always true = refl
-      always false = refl
-
       go : (b : Bool) → (eqb p d && (b || eqb k programWord)) ≡ same (programOf p) (cond b (programOf d) (nfAt ns ps h))
-      go true = rw (always (eqb p d))
+      go true = rw (and-true (eqb p d))
       go false = rw (form-is h home) (ap (λ (x : Bool). eqb p d && x) (kinds (eqb k programWord) refl) ∙ sym (same-made programWord p k d none (kids h)) ∙ ap (λ (t : Tree). same t (made k d (kids h))) (program-made p))
 
   pub lowest-program : (p : ℕ) → lowest (isProgram work p) count ≡ numberIn seen (programOf p)
@@ -285,7 +272,7 @@ module _ {ns ps forms work : List ℕ} {seen : List Tree} {count : ℕ} (es : En
               rw (ne-eqb (e % 2) 0 (λ r. absurd (omega (arith, eqb-true (e % 2) 1 q))), form-is h home)
               (sym (ap (same (made (cell forms kindColumn h) (cell forms datumColumn h) (kids h))) (sym (program-made (cell forms datumColumn (e / 2))))
               ∙ same-made (cell forms kindColumn h) (cell forms datumColumn h) programWord (cell forms datumColumn (e / 2)) (kids h) none
-              ∙ rw (ne-eqb (cell forms kindColumn h) programWord inner) (never (eqb (cell forms datumColumn h) (cell forms datumColumn (e / 2))))))
+              ∙ rw (ne-eqb (cell forms kindColumn h) programWord inner) (and-false (eqb (cell forms datumColumn h) (cell forms datumColumn (e / 2))))))
           go false q =
               let even : e % 2 ≡ 0 = omega (arith, eqb-false (e % 2) 1 q) in
               rw (eq-eqb (e % 2) 0 even) (row-same (e / 2) other (others even))

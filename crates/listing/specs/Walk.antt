@@ -59,7 +59,7 @@ module _ {ns ps forms work : List ℕ} {seen : List Tree} {depth count : ℕ} (t
   formed-here = formed-same (t .entries .same) (t .entries .formed) (t .entries .size)
 
   pub home-here : (h : ℕ) → Home ns ps forms h → Home ns ps work h
-  home-here h = same-home (t .entries .same) ns ps
+  home-here h = same-home (t .entries .same) (t .entries .formed) (t .entries .size)
 
   pub listable-here : Listable ns ps work count
   listable-here = record {

@@ -1,10 +1,9 @@
 -- `put_list` meets its contract: 19 leaves both outputs; else the list's words are written.
-use Rattle.canonicaliser.specs.Accepted.{fits-told, Room, fits-room}
-use Rattle.canonicaliser.specs.Outcome.{refusedWith, fitRow, fitWords, canonical-refused, canonical-done}
+use Rattle.canonicaliser.specs.Accepted.{fits-told, Room, row-room}
+use Rattle.canonicaliser.specs.Outcome.{refusedWith, fitRow, canonical-refused, canonical-done}
 use Rattle.list_output.specs.Canonical.{listing-rows, listing-nodes, listing-size, listing-words}
 use Rattle.listed.specs.Listing.{Listing}
 use Rattle.meaning.specs.Laws.RefusalLaws.{refused-output}
-use Rattle.meaning.specs.Laws.NumberLaws.{require-passed}
 use Rattle.meaning.specs.Rules.Calls.{fitsLists}
 use Rattle.meaning.specs.Rules.Canonical.{canonicalNodes, canonicalPool}
 use Rattle.meaning.specs.Rules.Refusals.{require}
@@ -16,7 +15,7 @@ use mathlib.Core.Logic.{_≢_}
 use lib.ListN.{length}
 use borrow.Author.Tests.{eq-eqb}
 use Prim.Native.Nat.{ℕ, _-_, _*_}
-use mathlib.Core.Bool.{Bool, true}
+use mathlib.Core.Bool.{Bool}
 use mathlib.Core.List.{List}
 use mathlib.Core.Path.{_≡_, sym, ap, _∙_}
 use native.Mathlib.Omega.{arith}
@@ -86,9 +85,7 @@ write-nodes-requires c κs =
     let told : c .before .before .before .before .fits2 .result ≡ fitsLists ns ps (length a) (length b) = c .before .before .before .before .fits2 .ensures ∙ fits-told l (length a) (length b) (c .before .before .before .before .before .pool-length .result) size in
     let row : c .before .before .before .require .result ≡ fitRow ns ps (length a) (length b) = c .before .before .before .require .ensures ∙ ap (λ (t : Bool). require t shortOutput) told in
     let done : fitRow ns ps (length a) (length b) .number ≡ 0 = ap (λ (r : Refusal). r .number) (sym row) ∙ c .before .if1 .left in
-    let yes-fits : fitsLists ns ps (length a) (length b) ≡ true = require-passed (fitsLists ns ps (length a) (length b)) 18 {P = fitsLists ns ps (length a) (length b) ≡ true} ((λ e. e), (λ e. e)) .when .0 done in
-    let fits : fitWords n (c .before .before .before .before .before .pool-length .result) (length a) (length b) ≡ true = fits-told l (length a) (length b) (c .before .before .before .before .before .pool-length .result) size ∙ yes-fits in
-    let room : Room n (c .before .before .before .before .before .pool-length .result) (length a) (length b) fits = fits-room n (c .before .before .before .before .before .pool-length .result) (length a) (length b) fits in
+    let room : Room n (c .before .before .before .before .before .pool-length .result) (length a) (length b) = row-room l (length a) (length b) (c .before .before .before .before .before .pool-length .result) size done in
     (listing-rows l, (room .nodes, omega (arith, c .before .before .before .before .before .pool-length .ensures, room .short)))
 
 write-pool-requires : tie.Need-write-pool-requires
@@ -105,9 +102,7 @@ write-pool-requires c κs =
     let told : c .before .before .before .before .before .before .before .before .fits2 .result ≡ fitsLists ns ps (length a) (length b) = c .before .before .before .before .before .before .before .before .fits2 .ensures ∙ fits-told l (length a) (length b) (c .before .before .before .before .before .before .before .before .before .pool-length .result) size in
     let row : c .before .before .before .before .before .before .before .require .result ≡ fitRow ns ps (length a) (length b) = c .before .before .before .before .before .before .before .require .ensures ∙ ap (λ (t : Bool). require t shortOutput) told in
     let done : fitRow ns ps (length a) (length b) .number ≡ 0 = ap (λ (r : Refusal). r .number) (sym row) ∙ c .before .before .before .before .before .if1 .left in
-    let yes-fits : fitsLists ns ps (length a) (length b) ≡ true = require-passed (fitsLists ns ps (length a) (length b)) 18 {P = fitsLists ns ps (length a) (length b) ≡ true} ((λ e. e), (λ e. e)) .when .0 done in
-    let fits : fitWords n (c .before .before .before .before .before .before .before .before .before .pool-length .result) (length a) (length b) ≡ true = fits-told l (length a) (length b) (c .before .before .before .before .before .before .before .before .before .pool-length .result) size ∙ yes-fits in
-    let room : Room n (c .before .before .before .before .before .before .before .before .before .pool-length .result) (length a) (length b) fits = fits-room n (c .before .before .before .before .before .before .before .before .before .pool-length .result) (length a) (length b) fits in
+    let room : Room n (c .before .before .before .before .before .before .before .before .before .pool-length .result) (length a) (length b) = row-room l (length a) (length b) (c .before .before .before .before .before .before .before .before .before .pool-length .result) size done in
     (l, (room .few, omega (arith, size, room .pool)))
 
 mul-t10 : tie.Need-mul-t10
@@ -124,9 +119,7 @@ mul-t10 c =
     let told : c .before .before .before .before .before .before .before .before .before .before .before .fits2 .result ≡ fitsLists ns ps (length a) (length b) = c .before .before .before .before .before .before .before .before .before .before .before .fits2 .ensures ∙ fits-told l (length a) (length b) (c .before .before .before .before .before .before .before .before .before .before .before .before .pool-length .result) size in
     let row : c .before .before .before .before .before .before .before .before .before .before .require .result ≡ fitRow ns ps (length a) (length b) = c .before .before .before .before .before .before .before .before .before .before .require .ensures ∙ ap (λ (t : Bool). require t shortOutput) told in
     let done : fitRow ns ps (length a) (length b) .number ≡ 0 = ap (λ (r : Refusal). r .number) (sym row) ∙ c .before .before .before .before .before .before .before .before .if1 .left in
-    let yes-fits : fitsLists ns ps (length a) (length b) ≡ true = require-passed (fitsLists ns ps (length a) (length b)) 18 {P = fitsLists ns ps (length a) (length b) ≡ true} ((λ e. e), (λ e. e)) .when .0 done in
-    let fits : fitWords n (c .before .before .before .before .before .before .before .before .before .before .before .before .pool-length .result) (length a) (length b) ≡ true = fits-told l (length a) (length b) (c .before .before .before .before .before .before .before .before .before .before .before .before .pool-length .result) size ∙ yes-fits in
-    let room : Room n (c .before .before .before .before .before .before .before .before .before .before .before .before .pool-length .result) (length a) (length b) fits = fits-room n (c .before .before .before .before .before .before .before .before .before .before .before .before .pool-length .result) (length a) (length b) fits in
+    let room : Room n (c .before .before .before .before .before .before .before .before .before .before .before .before .pool-length .result) (length a) (length b) = row-room l (length a) (length b) (c .before .before .before .before .before .before .before .before .before .before .before .before .pool-length .result) size done in
     record { fits = omega (arith, room .few) }
 
 cast-t18 : tie.Need-cast-t18
@@ -143,9 +136,7 @@ cast-t18 c =
     let told : c .before .before .before .before .before .before .before .before .before .before .before .fits2 .result ≡ fitsLists ns ps (length a) (length b) = c .before .before .before .before .before .before .before .before .before .before .before .fits2 .ensures ∙ fits-told l (length a) (length b) (c .before .before .before .before .before .before .before .before .before .before .before .before .pool-length .result) size in
     let row : c .before .before .before .before .before .before .before .before .before .before .require .result ≡ fitRow ns ps (length a) (length b) = c .before .before .before .before .before .before .before .before .before .before .require .ensures ∙ ap (λ (t : Bool). require t shortOutput) told in
     let done : fitRow ns ps (length a) (length b) .number ≡ 0 = ap (λ (r : Refusal). r .number) (sym row) ∙ c .before .before .before .before .before .before .before .before .if1 .left in
-    let yes-fits : fitsLists ns ps (length a) (length b) ≡ true = require-passed (fitsLists ns ps (length a) (length b)) 18 {P = fitsLists ns ps (length a) (length b) ≡ true} ((λ e. e), (λ e. e)) .when .0 done in
-    let fits : fitWords n (c .before .before .before .before .before .before .before .before .before .before .before .before .pool-length .result) (length a) (length b) ≡ true = fits-told l (length a) (length b) (c .before .before .before .before .before .before .before .before .before .before .before .before .pool-length .result) size ∙ yes-fits in
-    let room : Room n (c .before .before .before .before .before .before .before .before .before .before .before .before .pool-length .result) (length a) (length b) fits = fits-room n (c .before .before .before .before .before .before .before .before .before .before .before .before .pool-length .result) (length a) (length b) fits in
+    let room : Room n (c .before .before .before .before .before .before .before .before .before .before .before .before .pool-length .result) (length a) (length b) = row-room l (length a) (length b) (c .before .before .before .before .before .before .before .before .before .before .before .before .pool-length .result) size done in
     omega (arith, room .few)
 
 cast-t19 : tie.Need-cast-t19
@@ -162,9 +153,7 @@ cast-t19 c =
     let told : c .before .before .before .before .before .before .before .before .before .before .before .fits2 .result ≡ fitsLists ns ps (length a) (length b) = c .before .before .before .before .before .before .before .before .before .before .before .fits2 .ensures ∙ fits-told l (length a) (length b) (c .before .before .before .before .before .before .before .before .before .before .before .before .pool-length .result) size in
     let row : c .before .before .before .before .before .before .before .before .before .before .require .result ≡ fitRow ns ps (length a) (length b) = c .before .before .before .before .before .before .before .before .before .before .require .ensures ∙ ap (λ (t : Bool). require t shortOutput) told in
     let done : fitRow ns ps (length a) (length b) .number ≡ 0 = ap (λ (r : Refusal). r .number) (sym row) ∙ c .before .before .before .before .before .before .before .before .if1 .left in
-    let yes-fits : fitsLists ns ps (length a) (length b) ≡ true = require-passed (fitsLists ns ps (length a) (length b)) 18 {P = fitsLists ns ps (length a) (length b) ≡ true} ((λ e. e), (λ e. e)) .when .0 done in
-    let fits : fitWords n (c .before .before .before .before .before .before .before .before .before .before .before .before .pool-length .result) (length a) (length b) ≡ true = fits-told l (length a) (length b) (c .before .before .before .before .before .before .before .before .before .before .before .before .pool-length .result) size ∙ yes-fits in
-    let room : Room n (c .before .before .before .before .before .before .before .before .before .before .before .before .pool-length .result) (length a) (length b) fits = fits-room n (c .before .before .before .before .before .before .before .before .before .before .before .before .pool-length .result) (length a) (length b) fits in
+    let room : Room n (c .before .before .before .before .before .before .before .before .before .before .before .before .pool-length .result) (length a) (length b) = row-room l (length a) (length b) (c .before .before .before .before .before .before .before .before .before .before .before .before .pool-length .result) size done in
     omega (arith, room .short)
 
 same-length : tie.Need-same-length
@@ -187,9 +176,7 @@ returns-2 c =
     let told : c .before .before .before .before .before .before .before .before .before .before .before .fits2 .result ≡ fitsLists ns ps (length a) (length b) = c .before .before .before .before .before .before .before .before .before .before .before .fits2 .ensures ∙ fits-told l (length a) (length b) (c .before .before .before .before .before .before .before .before .before .before .before .before .pool-length .result) size in
     let row : c .before .before .before .before .before .before .before .before .before .before .require .result ≡ fitRow ns ps (length a) (length b) = c .before .before .before .before .before .before .before .before .before .before .require .ensures ∙ ap (λ (t : Bool). require t shortOutput) told in
     let done : fitRow ns ps (length a) (length b) .number ≡ 0 = ap (λ (r : Refusal). r .number) (sym row) ∙ c .before .before .before .before .before .before .before .before .if1 .left in
-    let yes-fits : fitsLists ns ps (length a) (length b) ≡ true = require-passed (fitsLists ns ps (length a) (length b)) 18 {P = fitsLists ns ps (length a) (length b) ≡ true} ((λ e. e), (λ e. e)) .when .0 done in
-    let fits : fitWords n (c .before .before .before .before .before .before .before .before .before .before .before .before .pool-length .result) (length a) (length b) ≡ true = fits-told l (length a) (length b) (c .before .before .before .before .before .before .before .before .before .before .before .before .pool-length .result) size ∙ yes-fits in
-    let room : Room n (c .before .before .before .before .before .before .before .before .before .before .before .before .pool-length .result) (length a) (length b) fits = fits-room n (c .before .before .before .before .before .before .before .before .before .before .before .before .pool-length .result) (length a) (length b) fits in
+    let room : Room n (c .before .before .before .before .before .before .before .before .before .before .before .before .pool-length .result) (length a) (length b) = row-room l (length a) (length b) (c .before .before .before .before .before .before .before .before .before .before .before .before .pool-length .result) size done in
     let over = eq-eqb (fitRow ns ps (length a) (length b) .number) 0 done in (
       ap (λ (r : Refusal). record { refusal = r; nodes = n * wordsPerNode; pool = c .before .before .before .before .before .before .before .before .before .before .before .before .pool-length .result }) row
           ∙ canonical-done ns ps (fitRow ns ps (length a) (length b)) (n * wordsPerNode) (c .before .before .before .before .before .before .before .before .before .before .before .before .pool-length .result) done (sym (listing-words l)) size,
