@@ -12,6 +12,7 @@ ghost use Prim.Native.Nat.{_<_};
 ghost use Rattle.meaning.specs.Rules.Trees.{nodeCount, kindAt};
 ghost use Rattle.meaning.specs.Rules.Kinds.{variableWord};
 
+// Any words; a list that a call answered has a line for each node.
 pub fn write_term(fd: i32, nodes: &[u32], pool: &[u32]) {
     let count = node_count(nodes);
     for i in 0..count {

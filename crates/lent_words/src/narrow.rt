@@ -8,6 +8,7 @@ ghost use Rattle.lent_words.specs.Lent as lent;
 // 2^31: before the call no word is as small as those of a list are, but for a Program's halves, and no two are alike.
 const UNTOUCHED: u32 = 2147483648;
 
+// Inner: another word at each place, so that one that is written is told from one that is not. The words do not wrap.
 pub fn fill(words: &mut [u32])
     requires { ⌜ length (now words) ≤ lent.narrow ⌝ }
     ensures { λ _. ⌜ now (words .exit) ≡ lent.filled lent.narrow 0 (now (words .entry)) ⌝ }
@@ -17,7 +18,7 @@ pub fn fill(words: &mut [u32])
     }
 }
 
-// Whether every word from a place on is as it was before the call: an output is never cleared.
+// Inner: whether every word from a place on is as it was before the call: an output is never cleared.
 pub fn is_left(words: &[u32], from: usize) -> bool
     requires { ⌜ length (now words) ≤ lent.narrow ⌝ }
     ensures { λ r. ⌜ r ≡ lent.left lent.narrow false from (drop from (now (words .entry))) ⌝ }
