@@ -18,7 +18,7 @@ ghost use Rattle.classes.specs.Alike.{Rows, sameClasses};
 
 // Inner: the lowest of the first `limit` nodes of the first list that has the tree of node j, which is reached; `limit`
 // where none has it.
-pub fn lowest_alike(
+pub(crate) fn lowest_alike(
     first_nodes: &[u32],
     first_pool: &[u32],
     limit: usize,

@@ -2,11 +2,9 @@
 use Prim.Native.Nat.{ℕ, zero, suc, _+_, _-_, _≤_, _<_}
 use mathlib.Core.Path.{_≡_, refl, sym, ap, _∙_}
 use mathlib.Core.Bool.{cond}
-use mathlib.Core.List.{List, [], _∷_, _++_, map}
-use native.Mathlib.Numerals.{add-one}
+use mathlib.Core.List.{List, [], _∷_, map}
 use native.Mathlib.Omega.{arith}
-use lib.ListN.{length, take, drop, set, take-append-drop, drop-of-length-le}
-use lib.Seq.{drop-cons, take-suc-set, drop-set-lt, append-snoc}
+use lib.ListN.{length, drop, drop-of-length-le}
 use lib.Dec.{eqb}
 use borrow.Author.Tests.{ne-eqb}
 use Rattle.decimals.specs.declared.Word.{Word}
@@ -74,22 +72,14 @@ unfolding filled
 filled-bad text [] at i h = refl
 filled-bad text (x ∷ old) at i h = rw h
 
-abbrev pub placesAfter : List ℕ → List ℕ → ℕ → ℕ → List ℕ
-placesAfter text row place at = take place row ++ filled text at (drop place row)
+pub filled-value : (text : List ℕ) (at v next : ℕ) → nextWord text at ≡ words.Value v next
+    → (x : ℕ) (rest : List ℕ) → filled text at (x ∷ rest) ≡ v ∷ filled text next rest
+unfolding filled
+filled-value text at v next h x rest = rw h
 
-module _ (text row : List ℕ) (place at : ℕ) where
-  pub places-more : (v next : ℕ) → place < length row → nextWord text at ≡ words.Value v next
-      → placesAfter text row place at ≡ placesAfter text (set row place v) (place + 1) next
-  unfolding filled
-  places-more v next l h =
-      rw (add-one place, take-suc-set row place v l, drop-set-lt (suc place) row place v (omega arith), append-snoc, drop-cons row place 0 l, h)
-
-  pub places-stop : filled text at (drop place row) ≡ drop place row → placesAfter text row place at ≡ row
-  places-stop h = ap (λ (xs : List ℕ). take place row ++ xs) h ∙ take-append-drop place row
-
-  pub places-whole : length row ≤ place → filled text at (drop place row) ≡ drop place row
-  unfolding filled
-  places-whole l = rw (drop-of-length-le row l)
+pub filled-whole : (text row : List ℕ) (place at : ℕ) → length row ≤ place → filled text at (drop place row) ≡ drop place row
+unfolding filled
+filled-whole text row place at l = rw (drop-of-length-le row l)
 
 -- ---- reading gets on
 

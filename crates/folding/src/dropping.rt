@@ -15,13 +15,13 @@ ghost use Rattle.meaning.specs.Laws.TableLaws.{butOne};
 ghost use Rattle.folding.specs.Folded.{Each, Readable, constantAt, ignoredAt, nextOf};
 
 // the operand that rule 3 drops, and the program over those left; or that no operand is dropped
-pub enum Next {
+pub(crate) enum Next {
     Drop { at: usize, program: u64 },
     Stay,
 }
 
 // Inner: what rule 3 says of two operands or more.
-pub fn next_rule(program: u64, operands: &[u64], work: &[u64]) -> Next
+pub(crate) fn next_rule(program: u64, operands: &[u64], work: &[u64]) -> Next
     requires { ⌜ (1 < length (now operands)) × (length (now operands) ≤ mostOperands) ⌝ }
     requires { ⌜ Each (Readable (now work)) (now operands) ⌝ }
     ensures { λ r. ⌜ r ≡ nextOf (now (work .entry)) program (now (operands .entry)) ⌝ }
@@ -91,7 +91,7 @@ fn row_bit(count: usize, at: usize) -> u64
 }
 
 // Inner: takes operand `at` from the first `count` of the list; the later ones move down.
-pub fn drop_at(operands: &mut [u64], count: usize, at: usize)
+pub(crate) fn drop_at(operands: &mut [u64], count: usize, at: usize)
     requires { ⌜ (at < count) × (count ≤ length (now operands)) ⌝ }
     ensures { λ _. ⌜ take (count - 1) (now (operands .exit)) ≡ butOne at (take count (now (operands .entry))) ⌝ }
 {

@@ -21,7 +21,7 @@ ghost use Rattle.forms.specs.Turns.{Turn};
 ghost use Rattle.forms.specs.Operands.{folds, gateProgram, operandsAt, programAt, homesOf, Outcome};
 
 // Inner: is a node of this kind folded? The gates, kinds 4 to 8, and Lut are.
-pub fn is_folded(kind: u32) -> bool
+pub(crate) fn is_folded(kind: u32) -> bool
     ensures { λ r. ⌜ r ≡ folds kind ⌝ }
 {
     kind > VARIABLE && kind <= LUT
@@ -80,7 +80,13 @@ fn read_homes(operands: &[u32], work: &[u64], homes: &mut [u64])
 }
 
 // Inner: node i folded, its operands left in the front of the lent list.
-pub fn folded_at(nodes: &[u32], pool: &[u32], i: usize, work: &[u64], homes: &mut [u64]) -> Folded
+pub(crate) fn folded_at(
+    nodes: &[u32],
+    pool: &[u32],
+    i: usize,
+    work: &[u64],
+    homes: &mut [u64],
+) -> Folded
     requires { ⌜ Turn (now nodes) (now pool) (now work) i ⌝ }
     requires { ⌜ 0 < markOf (now nodes) (now pool) i ⌝ }
     requires { ⌜ folds (kindAt (now nodes) i) ≡ true ⌝ }

@@ -17,7 +17,7 @@ ghost use Rattle.forms.specs.Operands.{Outcome};
 ghost use Rattle.forms.specs.Stores.{RowAt, Placed, LutRow};
 
 // Inner: a row's home, and the kind, the datum and the number of children of the form in it.
-pub fn put_row(work: &mut [u64], i: usize, home: usize, kind: u64, datum: u64, count: usize)
+pub(crate) fn put_row(work: &mut [u64], i: usize, home: usize, kind: u64, datum: u64, count: usize)
     requires { ⌜ workPerNode * i + workPerNode ≤ length (now work) ⌝ }
     ensures { λ _. ⌜ RowAt (now (work .entry)) (now (work .exit)) i home kind datum count ⌝ }
 {
@@ -50,7 +50,7 @@ fn put_lut(work: &mut [u64], i: usize, program: u64, homes: &[u64])
 }
 
 // Inner: what node i folds to. Where that is an operand, the operand's row is the node's home.
-pub fn store_folded(
+pub(crate) fn store_folded(
     nodes: &[u32],
     pool: &[u32],
     i: usize,

@@ -19,7 +19,7 @@ ghost use Rattle.long_searches.specs.Accepted as accepted;
 const MANY: usize = 16;
 
 // Do the numbers 1 to 8 let a list pass? One that they refuse is not searched; one that passes has its marks in the
-// work space (specs/Accepted, `accepted-prepares`).
+// work space (specs/Accepted, `accepted-prepares`). Inner: the list and the room are those of a program.
 pub fn is_accepted(nodes: &[u32], pool: &[u32], work: &mut [u64]) -> bool
     requires { ⌜ Taken (now nodes) (now pool) ⌝ }
     requires { ⌜ workRoom ≤ length (now work) ⌝ }

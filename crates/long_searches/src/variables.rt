@@ -10,7 +10,7 @@ ghost use Rattle.list_texts.specs.Counted.{Starts};
 ghost use Rattle.long_searches.specs.Shown.{variablesBelow};
 
 // The variables, lowest first, at the start of what is lent; answers how many they are. A list that is refused has
-// none, and is not searched.
+// none, and is not searched. Inner, as `is_accepted` is.
 pub fn variables_below(
     nodes: &[u32],
     pool: &[u32],

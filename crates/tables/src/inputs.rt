@@ -55,7 +55,7 @@ fn row_of(inputs: &[u8], forward: bool) -> u64
 }
 
 // Inner: the bit of program `p` at that row.
-pub fn eval_read(p: u64, inputs: &[u8], forward: bool) -> LutBit
+pub(crate) fn eval_read(p: u64, inputs: &[u8], forward: bool) -> LutBit
     ensures { λ r. ⌜ lutBitSays r ≡ evalRead forward p (now (inputs .entry)) ⌝ }
 {
     if !inputs_fit(inputs) {

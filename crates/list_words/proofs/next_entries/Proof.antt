@@ -5,7 +5,8 @@ use Prim.Native.Nat.{_≤_, _-_}
 use lib.ListN.{length, drop, length-set}
 use native.Mathlib.Omega.{arith}
 use borrow.Author.Needs.{needs}
-use Rattle.list_words.specs.EntryLaws.{placesAfter, entries-start, entries-more, entries-bad, entries-whole, filled-bad, places-more, places-stop, places-whole}
+use Rattle.list_words.specs.EntryLaws.{entries-start, entries-more, entries-bad, entries-whole, filled-bad, filled-value, filled-whole}
+use Rattle.decimals.specs.Places.{placesAfter, places-more, places-stop}
 use Rattle.list_words.specs.Entries.{entriesFrom, nextEntries, filled}
 use Rattle.list_words.proofs.next_entries.Statement.{statement}
 use Rattle.list_words.proofs.next_entries.Tie as tie
@@ -13,7 +14,7 @@ use Rattle.list_words.proofs.next_entries.Tie as tie
 abbrev Inv-loop : tie.InvT-loop
 Inv-loop text at places₀ next₀ place₀ place-end places next place = (place ≤ length places₀) × (place-end ≡ length places₀) × (length places ≡ length places₀)
     × (entriesFrom text (length places₀ - place) next ≡ nextEntries text at (length places₀))
-    × (placesAfter text places place next ≡ filled text at places₀)
+    × (placesAfter (filled text next) places place ≡ filled text at places₀)
 
 abbrev μ-loop : tie.MeasureT-loop
 μ-loop text at places₀ next₀ place₀ place-end places next place = place-end - place
@@ -45,7 +46,7 @@ returns : tie.Need-returns Inv-loop μ-loop
 returns c =
     let s = c .before .before .before .before .before .before .before .before in
     let l = c .before .before .before .before .before .loop in
-    let h = sym (c .before .before .before .next-entry .ensures) ∙ c .before .entry2 .given .1 in (sym (entries-bad (s .args .text .now) (length (s .args .places .now)) (l .place) (l .next) _ (omega arith) h) ∙ l .inv .3, sym (places-stop (s .args .text .now) (l .places) (l .place) (l .next) (filled-bad (s .args .text .now) (drop (l .place) (l .places)) (l .next) _ h)) ∙ l .inv .4)
+    let h = sym (c .before .before .before .next-entry .ensures) ∙ c .before .entry2 .given .1 in (sym (entries-bad (s .args .text .now) (length (s .args .places .now)) (l .place) (l .next) _ (omega arith) h) ∙ l .inv .3, sym (places-stop (filled (s .args .text .now) (l .next)) (l .places) (l .place) (filled-bad (s .args .text .now) (drop (l .place) (l .places)) (l .next) _ h)) ∙ l .inv .4)
 
 add-place : tie.Need-add-place Inv-loop μ-loop
 add-place c = search needs
@@ -57,7 +58,7 @@ loop-again : tie.Need-loop-again Inv-loop μ-loop
 loop-again c =
     let s = c .before .before .before .before .before .before .before .before in
     let l = c .before .before .before .before .before .loop in
-    let h = sym (c .before .before .before .next-entry .ensures) ∙ c .before .entry .given .1 in (omega arith, l .inv .1, simp length-set (l .inv .2), sym (entries-more (s .args .text .now) (length (s .args .places .now)) (l .place) (l .next) _ _ (omega arith) h) ∙ l .inv .3, sym (places-more (s .args .text .now) (l .places) (l .place) (l .next) _ _ (omega arith) h) ∙ l .inv .4)
+    let h = sym (c .before .before .before .next-entry .ensures) ∙ c .before .entry .given .1 in (omega arith, l .inv .1, simp length-set (l .inv .2), sym (entries-more (s .args .text .now) (length (s .args .places .now)) (l .place) (l .next) _ _ (omega arith) h) ∙ l .inv .3, sym (places-more (filled (s .args .text .now) (l .next)) (l .places) (l .place) _ _ (omega arith) (filled-value (s .args .text .now) (l .next) _ _ h)) ∙ l .inv .4)
 
 same-length-2 : tie.Need-same-length-2 Inv-loop μ-loop
 same-length-2 c = search needs
@@ -66,7 +67,7 @@ returns-2 : tie.Need-returns-2 Inv-loop μ-loop
 returns-2 c =
     let s = c .before .before .before .before in
     let l = c .before .loop in
-    (sym (entries-whole (s .args .text .now) (length (s .args .places .now)) (l .place) (l .next) (omega arith)) ∙ l .inv .3, sym (places-stop (s .args .text .now) (l .places) (l .place) (l .next) (places-whole (s .args .text .now) (l .places) (l .place) (l .next) (omega arith))) ∙ l .inv .4)
+    (sym (entries-whole (s .args .text .now) (length (s .args .places .now)) (l .place) (l .next) (omega arith)) ∙ l .inv .3, sym (places-stop (filled (s .args .text .now) (l .next)) (l .places) (l .place) (filled-whole (s .args .text .now) (l .places) (l .place) (l .next) (omega arith))) ∙ l .inv .4)
 
 pub next-entries-spec : {M : Type 1} → statement M
 next-entries-spec =

@@ -1,6 +1,7 @@
 -- `next_row` meets its contract. The invariant: what is left to read, from this place on, is answered as the whole row is,
 -- and the places passed with those to come are the row as it is to be.
-use Rattle.decimals.specs.RowLaws.{endAt, placesAfter, row-start, row-more, row-end, row-bad, row-whole, filled-end, filled-bad, places-more, places-stop, places-whole}
+use Rattle.decimals.specs.RowLaws.{endAt, row-start, row-more, row-end, row-bad, row-whole, filled-end, filled-bad, filled-value, filled-whole}
+use Rattle.decimals.specs.Places.{placesAfter, places-more, places-stop}
 use Rattle.decimals.specs.Rows.{rowFrom, nextRow, filled}
 use borrow.Author.Needs.{needs}
 use native.Mathlib.Omega.{arith}
@@ -13,7 +14,7 @@ use Rattle.decimals.proofs.rows.next_row.Tie as tie
 abbrev Inv-loop : tie.InvT-loop
 Inv-loop text at row₀ next₀ place₀ place-end row next place = (place ≤ length row₀) × (place-end ≡ length row₀) × (length row ≡ length row₀)
     × (rowFrom text (endAt text place) (length row₀ - place) next ≡ nextRow text at (length row₀))
-    × (placesAfter text row place next ≡ filled text at row₀)
+    × (placesAfter (filled text next) row place ≡ filled text at row₀)
 
 abbrev μ-loop : tie.MeasureT-loop
 μ-loop text at row₀ next₀ place₀ place-end row next place = place-end - place
@@ -43,7 +44,7 @@ same-length : tie.Need-same-length Inv-loop μ-loop
 same-length c = search needs
 
 returns : tie.Need-returns Inv-loop μ-loop
-returns c = let s = c .before .before .before .before .before .before .before .before in let l = c .before .before .before .before .before .loop in let h = sym (c .before .before .before .next-word .ensures) ∙ c .before .enum-told .given .1 in (c .end-at .ensures ∙ sym (row-end (s .args .text .now) (length (s .args .row .now)) (l .place) (l .next) (omega arith) h) ∙ l .inv .3, sym (places-stop (s .args .text .now) (l .row) (l .place) (l .next) (filled-end (s .args .text .now) (drop (l .place) (l .row)) (l .next) h)) ∙ l .inv .4)
+returns c = let s = c .before .before .before .before .before .before .before .before in let l = c .before .before .before .before .before .loop in let h = sym (c .before .before .before .next-word .ensures) ∙ c .before .enum-told .given .1 in (c .end-at .ensures ∙ sym (row-end (s .args .text .now) (length (s .args .row .now)) (l .place) (l .next) (omega arith) h) ∙ l .inv .3, sym (places-stop (filled (s .args .text .now) (l .next)) (l .row) (l .place) (filled-end (s .args .text .now) (drop (l .place) (l .row)) (l .next) h)) ∙ l .inv .4)
 
 enum-known-word-2 : tie.Need-enum-known-word-2 Inv-loop μ-loop
 enum-known-word-2 c = search needs
@@ -52,7 +53,7 @@ same-length-2 : tie.Need-same-length-2 Inv-loop μ-loop
 same-length-2 c = search needs
 
 returns-2 : tie.Need-returns-2 Inv-loop μ-loop
-returns-2 c = let s = c .before .before .before .before .before .before .before .before in let l = c .before .before .before .before .before .loop in let h = sym (c .before .before .before .next-word .ensures) ∙ c .before .word2 .given .1 in (sym (row-bad (s .args .text .now) (length (s .args .row .now)) (l .place) (l .next) _ (omega arith) h) ∙ l .inv .3, sym (places-stop (s .args .text .now) (l .row) (l .place) (l .next) (filled-bad (s .args .text .now) (drop (l .place) (l .row)) (l .next) _ h)) ∙ l .inv .4)
+returns-2 c = let s = c .before .before .before .before .before .before .before .before in let l = c .before .before .before .before .before .loop in let h = sym (c .before .before .before .next-word .ensures) ∙ c .before .word2 .given .1 in (sym (row-bad (s .args .text .now) (length (s .args .row .now)) (l .place) (l .next) _ (omega arith) h) ∙ l .inv .3, sym (places-stop (filled (s .args .text .now) (l .next)) (l .row) (l .place) (filled-bad (s .args .text .now) (drop (l .place) (l .row)) (l .next) _ h)) ∙ l .inv .4)
 
 add-place : tie.Need-add-place Inv-loop μ-loop
 add-place c = search needs
@@ -61,13 +62,13 @@ loop-less : tie.Need-loop-less Inv-loop μ-loop
 loop-less c = search needs
 
 loop-again : tie.Need-loop-again Inv-loop μ-loop
-loop-again c = let s = c .before .before .before .before .before .before .before .before in let l = c .before .before .before .before .before .loop in let h = sym (c .before .before .before .next-word .ensures) ∙ c .before .word .given .1 in (omega arith, l .inv .1, simp length-set (l .inv .2), sym (row-more (s .args .text .now) (length (s .args .row .now)) (l .place) (l .next) _ _ (omega arith) h) ∙ l .inv .3, sym (places-more (s .args .text .now) (l .row) (l .place) (l .next) _ _ (omega arith) h) ∙ l .inv .4)
+loop-again c = let s = c .before .before .before .before .before .before .before .before in let l = c .before .before .before .before .before .loop in let h = sym (c .before .before .before .next-word .ensures) ∙ c .before .word .given .1 in (omega arith, l .inv .1, simp length-set (l .inv .2), sym (row-more (s .args .text .now) (length (s .args .row .now)) (l .place) (l .next) _ _ (omega arith) h) ∙ l .inv .3, sym (places-more (filled (s .args .text .now) (l .next)) (l .row) (l .place) _ _ (omega arith) (filled-value (s .args .text .now) (l .next) _ _ h)) ∙ l .inv .4)
 
 same-length-3 : tie.Need-same-length-3 Inv-loop μ-loop
 same-length-3 c = search needs
 
 returns-3 : tie.Need-returns-3 Inv-loop μ-loop
-returns-3 c = let s = c .before .before .before .before in let l = c .before .loop in (sym (row-whole (s .args .text .now) (length (s .args .row .now)) (l .place) (l .next) (omega arith)) ∙ l .inv .3, sym (places-stop (s .args .text .now) (l .row) (l .place) (l .next) (places-whole (s .args .text .now) (l .row) (l .place) (l .next) (omega arith))) ∙ l .inv .4)
+returns-3 c = let s = c .before .before .before .before in let l = c .before .loop in (sym (row-whole (s .args .text .now) (length (s .args .row .now)) (l .place) (l .next) (omega arith)) ∙ l .inv .3, sym (places-stop (filled (s .args .text .now) (l .next)) (l .row) (l .place) (filled-whole (s .args .text .now) (l .row) (l .place) (l .next) (omega arith))) ∙ l .inv .4)
 
 pub next-row-spec : {M : Type 1} → statement M
 next-row-spec =
