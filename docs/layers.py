@@ -3,8 +3,8 @@
     python3 docs/layers.py           writes both
     python3 docs/layers.py --check   status 1 if what is written is not what crates.txt gives now
 
-All that is shown comes from crates.txt: a part is what stands between two blank lines, a crate's place within its part
-follows from what it uses, and its description is the comment above it. A crate that another one brings with it is not
+All that is shown comes from crates.txt: a part is what stands under a line '# ---- TITLE', a crate's place within its
+part follows from what it uses, and its description is the comment above it. A crate that another one brings with it is not
 shown as used: only the transitive reduction is drawn, and crates.txt has the whole. A name that has no line of its own
 is a library of the kit's.
 """
@@ -18,6 +18,7 @@ ROOT = Path(__file__).resolve().parent.parent
 SOURCE = ROOT / "crates.txt"
 
 Crate = namedtuple("Crate", "name uses comment part")
+PART = "# ---- "
 
 
 class BadSource(Exception):
@@ -27,30 +28,24 @@ class BadSource(Exception):
 # ---- crates.txt
 
 def read_crates(text):
-    """The crates in order. A comment belongs to the crate below it; a blank line ends a part."""
-    crates, comment, part = [], [], 0
+    """The crates in order. A comment belongs to the crate below it; a part begins with its title."""
+    crates, comment, part = [], [], None
     for line in text.splitlines():
-        if not line.strip():
-            part, comment = part + 1, []
+        if line.startswith(PART) or not line.strip():
+            part, comment = line.removeprefix(PART) or part, []
         elif line.startswith("#"):
             comment.append(line.lstrip("# "))
         else:
             crates.append(crate_of(line, " ".join(comment), part))
             comment = []
-    return numbered_parts(crates)
+    return crates
 
 
 def crate_of(line, comment, part):
     name, colon, uses = line.partition(":")
-    if not colon:
-        raise BadSource(f"no colon in the line: {line}")
+    if not colon or not part:
+        raise BadSource(f"no colon in the line, or no title over it: {line}")
     return Crate(name.strip(), uses.split(), comment, part)
-
-
-def numbered_parts(crates):
-    """Parts without a crate, such as the file's first comment, do not count."""
-    parts = sorted({crate.part for crate in crates})
-    return [crate._replace(part=parts.index(crate.part)) for crate in crates]
 
 
 def require_order(crates):
@@ -88,8 +83,9 @@ class Network:
         return self.by_name[name].part if name in self.by_name else None
 
     def parts(self):
-        count = max(crate.part for crate in self.crates) + 1
-        return [[crate for crate in self.crates if crate.part == part] for part in range(count)]
+        """The crates of each part, in order."""
+        titles = dict.fromkeys(crate.part for crate in self.crates)
+        return [[crate for crate in self.crates if crate.part == title] for title in titles]
 
     def within(self, crate):
         """What it rests on in its own part."""
@@ -112,22 +108,20 @@ class Network:
 
 HEAD = """# Layers
 
-Made from crates.txt by `python3 docs/layers.py`; the picture is LAYERS.svg. A part is what stands between two blank
-lines of crates.txt. A crate's level is 0 where it rests on no other of its part, else one more than the highest of
+Made from crates.txt by `python3 docs/layers.py`; the picture is LAYERS.svg. A part is what stands under a
+title there. A crate's level is 0 where it rests on no other of its part, else one more than the highest of
 those that it rests on. "Rests on" leaves out what another of those named brings with it; crates.txt has the whole.
 What stands in brackets is a library of the kit's.
 """
 
 
 def page_of(network):
-    sections = [part_text(network, number, crates) for number, crates in enumerate(network.parts())]
-    return HEAD + "".join(sections)
+    return HEAD + "".join(part_text(network, crates) for crates in network.parts())
 
 
-def part_text(network, number, crates):
+def part_text(network, crates):
     levels = network.levels(crates)
-    rows = [f"\n## Part {number + 1}: {part_title(network, crates)}\n", "| Level | Crate | Rests on | What it is |",
-            "|---|---|---|---|"]
+    rows = [f"\n## {part_title(crates)}\n", "| Level | Crate | Rests on | What it is |", "|---|---|---|---|"]
     for crate in sorted(crates, key=lambda crate: levels[crate.name]):
         rests = ", ".join(shown(network, name) for name in network.rests_on[crate.name]) or "nothing"
         rows.append(f"| {levels[crate.name]} | `{crate.name}` | {rests} | {crate.comment} |")
@@ -138,9 +132,8 @@ def shown(network, name):
     return f"`{name}`" if name in network.by_name else f"[{name}]"
 
 
-def part_title(network, crates):
-    ends = network.ends(crates)
-    return f"{len(crates)} crates, up to {', '.join(ends)}"
+def part_title(crates):
+    return crates[0].part[0].upper() + crates[0].part[1:]
 
 
 # ---- a part as a drawing: columns by level, and lines that never run through a box
@@ -310,23 +303,11 @@ def picture_of(network):
 
 def part_picture(drawing, top, width):
     box = drawing.height() + TITLE_HEIGHT + MARGIN
-    title = title_that_fits(part_title(drawing.network, drawing.crates), width)
     at = Placed(drawing, top + TITLE_HEIGHT + MARGIN / 4)
     return [f'<rect class="part" x="{MARGIN / 2}" y="{top:.1f}" width="{width - MARGIN}" height="{box:.1f}" rx="6"/>',
-            text_at(MARGIN, top + 22, "title", title),
+            text_at(MARGIN, top + 22, "title", part_title(drawing.crates)),
             *(line_picture(at, line) for line in drawing.lines),
             *(box_picture(at, crate) for crate in drawing.crates)]
-
-
-def title_that_fits(title, width):
-    """Names that don't fit are counted instead."""
-    most = int((width - 2 * MARGIN) / (13 * GLYPH))
-    names = title.split(", ")
-    for left_out in range(1, len(names)):
-        if len(title) <= most:
-            break
-        title = ", ".join(names[:-left_out]) + f" and {left_out} more"
-    return title
 
 
 class Placed:

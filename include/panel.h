@@ -10,7 +10,8 @@
  *   PANEL_DONE, or why the call refused. Every word of the block is written by every call, and none behind it.
  *
  *   A call ends with an answer whatever the words in its slices are. It asks no memory of the system and keeps nothing
- *   from one call to the next. How much stack it takes is not proved.
+ *   from one call to the next. How much stack it takes is not proved (tests/stack/run shows what it was seen to take).
+ *   The library calls nothing from outside but memcpy and memset.
  *
  * What the caller owes (assumed, and not checked)
  *

@@ -103,11 +103,12 @@ int main(void)
                  {"panel_separate", separate}, {"panel_canonicalize", canonicalize}, {"panel_swap_pos", swap_pos}};
     make_list(2000);
     for (size_t at = 0; at < sizeof calls / sizeof *calls; at++) {
-        size_t took = touched(calls[at].call) - touched(nothing);
-        touched(calls[at].call);
+        /* once before it counts: the loader takes stack of its own where it finds memcpy and memset */
+        calls[at].call();
         if (answer[0] != PANEL_DONE) {
             fail(calls[at].name);
         }
+        size_t took = touched(calls[at].call) - touched(nothing);
         printf("%-20s %5zu bytes\n", calls[at].name, took);
     }
     return 0;

@@ -2,7 +2,8 @@
 // meaning's Rules/Calls, `verify`, over Rules/Layout, Verification and Evaluable; that yes or no equals the Rust's
 // walk path by path is Claims/PathByPath. A user calls `verify_expr`, with any words at all. `sound` is what the
 // calls that need a value share: the whole row of numbers 3 to 8 for one list, which leaves marks and shapes in its
-// columns (specs/Left). Every pass looks at each node and each pool entry a bounded number of times.
+// columns (specs/Left). Every pass looks a bounded number of times at each node and at each of its children; parts of the
+// pool may overlap, so these can be more than the pool has entries.
 use columns::clear;
 use marks::mark_reached;
 use meaning::Refusal;
