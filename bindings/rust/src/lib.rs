@@ -53,6 +53,7 @@ mod lists;
 mod numbers;
 mod raw;
 mod tables;
+pub mod words;
 
 pub use answers::{Answer, Check, Comparison, Evaluation, Failure, Judgement, NodeAnswer, Separation};
 pub use lists::{canonicalize, compare, evaluate, separate, verify, work_for, List};

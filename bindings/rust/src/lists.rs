@@ -2,11 +2,7 @@
 use crate::answers::{Comparison, Evaluation, Separation};
 use crate::numbers::{done_or_refused, Error, Foreign};
 use crate::raw;
-
-const WORDS_PER_NODE: usize = 3;
-const WORK_PER_NODE: usize = 16;
-const WORK_PER_POOL: usize = 2;
-const WORDS_PER_PAIR: usize = 2;
+use crate::words::{NODE_WORDS, PAIR_WORDS, WORK_PER_NODE, WORK_PER_POOL};
 
 /// A network: nodes of three words each (kind, first, count) and the child numbers that they share.
 #[derive(Clone, Copy, Debug, PartialEq, Eq, Hash)]
@@ -19,7 +15,7 @@ pub struct List<'a> {
 
 impl List<'_> {
     fn node_count(&self) -> usize {
-        self.nodes.len() / WORDS_PER_NODE
+        self.nodes.len() / NODE_WORDS
     }
 }
 
@@ -71,7 +67,7 @@ pub fn evaluate<'a>(list: List, bytes: &[u8], work: &mut [u64], out: &'a mut [u6
         );
     }
     done_or_refused(answer[0], answer[1])?;
-    let pairs = out.get(..WORDS_PER_PAIR * list.node_count()).ok_or(Foreign(answer[0]))?;
+    let pairs = out.get(..PAIR_WORDS * list.node_count()).ok_or(Foreign(answer[0]))?;
     Ok(Evaluation::of(pairs)?)
 }
 

@@ -7,17 +7,18 @@ mod networks;
 mod words;
 
 use networks::{Case, CASES, RUN_SIGNALS, SIGNALS};
+use panel::words::{NODE_WORDS, WORK_PER_NODE, WORK_PER_POOL};
 use panel::{canonicalize, compare, separate, verify, Check, Judgement, List};
 use std::process::ExitCode;
 
 /// This panel's own limits, and all that it lends.
 const MOST_NODES: usize = 64;
 const MOST_POOL: usize = 256;
-const TWO_LISTS: usize = 2 * (16 * MOST_NODES + 2 * MOST_POOL);
+const TWO_LISTS: usize = 2 * (WORK_PER_NODE * MOST_NODES + WORK_PER_POOL * MOST_POOL);
 
 struct Lent {
     work: [u64; TWO_LISTS],
-    out_nodes: [u32; 3 * MOST_NODES],
+    out_nodes: [u32; NODE_WORDS * MOST_NODES],
     out_pool: [u32; MOST_POOL],
 }
 
@@ -87,7 +88,7 @@ fn as_it_should_be(case: &Case, lent: &mut Lent) -> bool {
 }
 
 fn main() -> ExitCode {
-    let mut lent = Lent { work: [0; TWO_LISTS], out_nodes: [0; 3 * MOST_NODES], out_pool: [0; MOST_POOL] };
+    let mut lent = Lent { work: [0; TWO_LISTS], out_nodes: [0; NODE_WORDS * MOST_NODES], out_pool: [0; MOST_POOL] };
     let wrong = CASES.iter().filter(|case| !as_it_should_be(case, &mut lent)).count();
     println!("{wrong} of {} cases decided otherwise than they should be", CASES.len());
     if wrong == 0 {
