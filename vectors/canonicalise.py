@@ -7,7 +7,8 @@ canonicalise_folds.py, canonicalise_lists.py and canonicalise_refusals.py, with 
 gives; then lists are drawn, sound and damaged, many of them with constants. Every answer, every word that is written
 and whether the work space is cleared is what vectors/model.py computes, and what is written out must be the model's.
 Where few variables are below the root, the model says besides what a comparison of the given list with the canonical
-one finds: never that they differ.
+one finds: never that they differ. The last cases are the original Rust's: vectors/oracle/canonicalise.txt has those of
+its canonical lists that are document 01's (oracle/sample); they must be the model's too, or this stops.
 
 A case is one line of decimal words:
   words entries work out_words out_entries  number node node_words pool_words  verdict  cleared
@@ -29,6 +30,7 @@ import canonicalise_lists
 import canonicalise_refusals
 import meaning
 import model
+import original
 from canonicals import NOT_ASKED, SHORT_OUTPUT, WIDE_GATE, case, lines
 from comparisons import LITTLE_WORK, asked
 from lister import Evaluable, evaluable_list, word_changed, word_dropped
@@ -136,6 +138,17 @@ def meaning_lists(rng):
             case((nodes, pool), len(work), tuple(map(len, outputs)))
 
 
+# ---- the original's
+
+
+def from_the_original():
+    for (words, entries, *rest), (node_words, pool_words, *list_words) in original.cases("canonicalise"):
+        (number, _), (nodes, pool) = case(tuple(original.parts(rest, words, entries)))
+        theirs = list_words[:node_words], list_words[node_words:]
+        original.agreed("canonicalise", (number, nodes, pool), (0, *theirs))
+        assert len(theirs[1]) == pool_words
+
+
 # ---- the whole
 
 BY_HAND = canonicalise_folds.BY_HAND + canonicalise_lists.BY_HAND + canonicalise_refusals.BY_HAND
@@ -177,7 +190,7 @@ def main():
     # the model follows a list of 4,096 nodes one below the other by some calls each
     sys.setrecursionlimit(20000)
     rng = random.Random(SEED)
-    for title, makers in (("by hand", BY_HAND), ("drawn", DRAWN)):
+    for title, makers in (("by hand", BY_HAND), ("drawn", DRAWN), ("more", (from_the_original,))):
         counts = made(makers, rng, lines)
         shown(f"{sum(counts.values())} {title}", counts, key=list(counts).index)
     tally()

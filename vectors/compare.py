@@ -7,7 +7,9 @@ How the cases are made: pairs of lists for each sentence about a comparison are 
 compare_values.py, compare_inputs.py and compare_refusals.py, each with the answer that document 01 gives it; then pairs
 of lists are drawn, sound, alike and damaged. Every answer, and whether the work space is cleared, is what
 vectors/model.py computes, and an answer that is written out must be the model's; six cases of 2^16 assignments and more
-are too long for the model, and are written out alone (`all_of_many`).
+are too long for the model, and are written out alone (`all_of_many`). The last cases are the original Rust's:
+vectors/oracle/compare.txt has them with its verdict and, by its own evaluator, the index and both answers
+(oracle/sample), which must be the model's too, or this stops.
 
 A case is one line of decimal words:
   words1 entries1 words2 entries2 work  number node verdict index  state1 width1 value1  state2 width2 value2  cleared
@@ -27,6 +29,7 @@ import compare_refusals
 import compare_values
 import meaning
 import model
+import original
 from comparisons import FAILS, NOT_EVALUABLE, asked, case, each_tree_once, lines
 from lister import evaluable_list, word_changed, word_dropped
 from networks import FAILURES
@@ -108,6 +111,15 @@ def meaning_pairs(rng):
             case(first, second, len(work))
 
 
+# ---- the original's
+
+
+def from_the_original():
+    for words, answer in original.cases("compare"):
+        nodes1, pool1, nodes2, pool2 = original.parts(words[4:], *words[:4])
+        original.agreed("compare", case((nodes1, pool1), (nodes2, pool2)), (0, 0, *answer))
+
+
 # ---- the whole
 
 DRAWN = (compare_values.drawn_tables, alike_pairs, other_pairs, meaning_pairs)
@@ -153,7 +165,7 @@ def main():
     sys.setrecursionlimit(20000)
     rng = random.Random(SEED)
     by_hand = compare_values.BY_HAND + compare_inputs.BY_HAND + compare_refusals.BY_HAND
-    for title, makers in (("by hand", by_hand), ("drawn", DRAWN)):
+    for title, makers in (("by hand", by_hand), ("drawn", DRAWN), ("more", (from_the_original,))):
         counts = made(makers, rng, lines)
         shown(f"{sum(counts.values())} {title}", counts, key=list(counts).index)
     tally()

@@ -5,7 +5,9 @@ usage: python3 vectors/evaluate.py      writes crates/replay_evaluate/stdin and 
 How the cases are made: lists for every kind, failure, width and boundary are written out by hand below, each with the
 answer that document 01 gives it; then evaluable lists of up to 25 nodes are drawn, with bytes among 0, 1 and 2, and
 some are given too in damaged copies. Every answer, every pair and whether the work space is cleared is what
-vectors/model.py computes; an answer that is written out here must be the model's.
+vectors/model.py computes; an answer that is written out here must be the model's. The last cases are the original
+Rust's: vectors/oracle/evaluate.txt has them with the state, width and value of each node (oracle/sample), which must be
+the model's too, or this stops.
 
 A case is one line of decimal words, as crates/replay_evaluate/src/cases.rt says:
   node_words pool_entries byte_count work_words out_words  number node state width value cleared
@@ -21,6 +23,7 @@ import sys
 from collections import Counter
 
 import model
+import original
 from lister import KIND, LARGEST, Lister, drawn_list, evaluable_list, of, word_changed, word_dropped
 from model import HALF, KINDS
 from networks import (ARG, DONT_CARE, FAILURES, LETTERS, REGISTER, STATES, UNDRIVEN, Network, failure_of, unevaluable,
@@ -800,6 +803,16 @@ def drawn_cases(rng):
         case(*drawn_list(rng), drawn_bytes(rng))
 
 
+# ---- the original's
+
+
+def from_the_original():
+    for (words, entries, count, *rest), answer in original.cases("evaluate"):
+        (number, _, *root), pairs = case(*original.parts(rest, words, entries, count))
+        theirs = [word for at in range(0, len(answer), 3) for word in (answer[at], answer[at + 2])]
+        original.agreed("evaluate", (number, *root, *pairs), (0, *answer[-3:], *theirs))
+
+
 # ---- the whole
 
 
@@ -842,14 +855,15 @@ def shown(title, counts):
     print(title + ": " + ", ".join(f"{key} {counts[key]}" for key in sorted(counts)), file=sys.stderr)
 
 
-def tally(by_hand_count):
+def tally(by_hand_count, drawn_count):
     """How many cases there are of each number, root state and width, and kind at the root; each is there."""
     numbers = Counter(line[5] for line in lines)
     done = [line for line in lines if line[5] == 0]
     states = Counter(line[7] for line in done)
     kinds = Counter(map(root_kind, done))
     widths = Counter(line[8] for line in done if line[7] == 0)
-    print(f"{by_hand_count} by hand, {len(lines) - by_hand_count} drawn", file=sys.stderr)
+    more = len(lines) - by_hand_count - drawn_count
+    print(f"{by_hand_count} by hand, {drawn_count} drawn, {more} more of the original's", file=sys.stderr)
     shown("numbers", numbers)
     shown("root states", states)
     shown("root kinds", kinds)
@@ -874,7 +888,9 @@ def main():
     by_hand(rng)
     by_hand_count = len(lines)
     drawn_cases(rng)
-    tally(by_hand_count)
+    drawn_count = len(lines) - by_hand_count
+    from_the_original()
+    tally(by_hand_count, drawn_count)
     text = "".join(" ".join(map(str, line)) + "\n" for line in lines)
     assert len(text) <= LARGEST_INPUT, len(text)
     print(f"{len(text)} bytes", file=sys.stderr)

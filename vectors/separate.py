@@ -9,6 +9,8 @@ drawn, sound and damaged. Every answer, and whether the work space is cleared, i
 answer that is written out must be the model's. The model tries 2^n assignments: where that is over 2^12 and none of the
 first 2^12 crosses, separations.py tries those of the variables below the root alone, a way that must agree with the
 model wherever both are asked; and 22 cases in which it would take minutes are written out alone (`all_of_many`).
+The last cases are answered by the original Rust: it has no such judgement, but vectors/oracle/separate.txt has document
+01's definition over its own evaluator (oracle/sample), which must be the model's answer too, or this stops.
 
 A case is one line of decimal words:
   words entries n marks work  number node judgement index  state width value  state width value  cleared
@@ -25,6 +27,7 @@ from collections import Counter
 
 import meaning
 import model
+import original
 import separate_inputs
 import separate_refusals
 import separate_values
@@ -97,6 +100,15 @@ def meaning_lists(rng):
             case((nodes, pool), n, marks, len(work))
 
 
+# ---- the original's
+
+
+def from_the_original():
+    for (words, entries, n, marks, *rest), answer in original.cases("separate"):
+        given = tuple(original.parts(rest, words, entries))
+        original.agreed("separate", case(given, int(n), int(marks)), (0, 0, *answer))
+
+
 # ---- the whole
 
 BY_HAND = separate_values.BY_HAND + separate_inputs.BY_HAND + separate_refusals.BY_HAND
@@ -129,7 +141,7 @@ def main():
     # the model follows a list of 4,096 nodes one below the other by as many calls
     sys.setrecursionlimit(20000)
     rng = random.Random(SEED)
-    for title, makers in (("by hand", BY_HAND), ("drawn", DRAWN)):
+    for title, makers in (("by hand", BY_HAND), ("drawn", DRAWN), ("more", (from_the_original,))):
         counts = made(makers, rng, lines)
         shown(f"{sum(counts.values())} {title}", counts, key=list(counts).index)
     tally()

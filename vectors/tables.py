@@ -7,7 +7,8 @@ written out as its truth table, a dictionary from each assignment of the operand
 operand first) to the digit of that row; the digits are those of the program's binary numeral read from its low end.
 An operand is fixed, dropped or exchanged by taking those assignments, and the table left is written as a numeral
 again. That p is below 2^n is read off the length of its numeral. The answers of document 01's own examples are typed
-in, and must be what this computes.
+in, and must be what this computes. The last cases are the original Rust's: vectors/oracle/tables.txt has them with its
+answers (oracle/sample), which must be what this computes too, or this stops.
 
 A case is one line of 17 decimal words, as crates/replay_tables/src/rows.rt says:
   routine  p  size  pos  v  number first second  count  byte*8
@@ -18,6 +19,8 @@ import itertools
 import os
 import random
 import sys
+
+import original
 
 ROUTINES = ["eval_lut", "eval_lut_bv", "to_bitvec", "remove_lsb_var", "eval_lut_const_input", "cofactors_in_msb",
             "swap_pos"]
@@ -242,6 +245,14 @@ def random_cases(word):
         case("to_bitvec", word(min(max(capacity, 1), WIDEST)), capacity)
 
 
+def from_the_original():
+    for (routine, p, *rest), answer in original.cases("tables"):
+        rest = list(map(int, rest))
+        names = {"eval_lut_const_input": ("size", "v"), "swap_pos": ("size", "pos")}.get(routine, ("size",))
+        given = {"inputs": rest} if routine in ("eval_lut", "eval_lut_bv") else dict(zip(names, rest, strict=True))
+        original.agreed("tables", case(routine, int(p), **given), answer)
+
+
 # ---- what kinds of answers there are
 
 
@@ -273,6 +284,7 @@ def main():
     boundaries()
     inputs_cases(word)
     random_cases(word)
+    from_the_original()
     tally()
     assert len(rows_written) >= 2000
     top = os.path.join(os.path.dirname(os.path.abspath(__file__)), "..", "crates", "replay_tables")
@@ -283,4 +295,5 @@ def main():
         print(f"{len(rows_written)} cases, 0 differ", file=out)
 
 
-main()
+if __name__ == "__main__":
+    main()

@@ -5,7 +5,9 @@ usage: python3 vectors/verify.py      writes crates/replay_verify/stdin and stdo
 How the cases are made: lists at each boundary of numbers 1 to 6 and 10 are written out by hand below, each with the
 answer that document 01 gives it; then sound lists of up to 30 nodes are drawn, and each is given too in damaged copies:
 a word changed, a word dropped, the work space one word short. Every answer, and whether the work space is cleared, is
-what vectors/model.py computes; an answer that is written out here must be the model's.
+what vectors/model.py computes; an answer that is written out here must be the model's. The last cases are the original
+Rust's: vectors/oracle/verify.txt has them with its yes or no (oracle/sample), which must be the model's too, or this
+stops; the faulty node is the model's.
 
 A case is one line of decimal words, as crates/replay_verify/src/cases.rt says:
   node_words pool_entries work_words  number node cleared  node words..  pool entries..
@@ -18,6 +20,7 @@ import sys
 from collections import Counter
 
 import model
+import original
 from lister import INNER, KIND, LARGEST, Lister, blank_nodes, drawn_list, of, word_changed, word_dropped
 from model import CHILDREN, HALF, KINDS
 
@@ -558,6 +561,15 @@ def drawn_cases(rng):
             case(nodes, pool, asked(nodes, pool) - 1)
 
 
+# ---- the original's
+
+
+def from_the_original():
+    for (words, entries, *rest), answer in original.cases("verify"):
+        number, _ = case(*original.parts(rest, words, entries))
+        original.agreed("verify", (int(number == 0),), answer)
+
+
 # ---- the whole
 
 
@@ -587,10 +599,11 @@ def by_hand():
     wide_to_the_limit()
 
 
-def tally(by_hand_count):
+def tally(by_hand_count, drawn_count):
     """How many cases there are of each number; each number is there often enough."""
     numbers = Counter(line[3] for line in lines)
-    print(f"{by_hand_count} by hand, {len(lines) - by_hand_count} drawn", file=sys.stderr)
+    more = len(lines) - by_hand_count - drawn_count
+    print(f"{by_hand_count} by hand, {drawn_count} drawn, {more} more of the original's", file=sys.stderr)
     print(", ".join(f"number {number}: {numbers[number]}" for number in sorted(numbers)), file=sys.stderr)
     assert set(numbers) == {0, 1, 2, 3, 4, 5, 6, 10}
     assert len(lines) >= FEWEST_CASES
@@ -607,7 +620,9 @@ def main():
     by_hand()
     by_hand_count = len(lines)
     drawn_cases(random.Random(SEED))
-    tally(by_hand_count)
+    drawn_count = len(lines) - by_hand_count
+    from_the_original()
+    tally(by_hand_count, drawn_count)
     text = "".join(" ".join(map(str, line)) + "\n" for line in lines)
     assert len(text) <= LARGEST_INPUT, len(text)
     print(f"{len(text)} bytes", file=sys.stderr)
