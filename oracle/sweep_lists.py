@@ -24,7 +24,7 @@ def is_list(given):
 
 
 def lists(rng, *makers):
-    """Lists of one of these makers, a third of them damaged but still lists."""
+    """Lists of one of these makers; a third are damaged, where the damage leaves a list."""
     while True:
         given = rng.choice(makers)(rng)
         if rng.random() < 1 / 3:
