@@ -1,7 +1,7 @@
--- that a case's row gets on in the text
-pub mod Headers
--- that there is room for a case
-pub mod Room
+-- which words may stand in a case's row
+pub mod Cases
+-- that outputs can be looked at after a call
+pub mod Outputs
 -- that reading an expected list gets on in the text
 pub mod Written
 -- what a comparison says

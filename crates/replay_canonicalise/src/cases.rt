@@ -10,101 +10,36 @@
 // the number is 0, the node words and the pool entries of the canonical list.
 use super::judgement::Expected;
 use super::judgement::Listed;
-use decimals::Row;
-use decimals::next_row;
+use case_rows::ANY_WORD;
 use list_room::NODE_ROOM;
 use list_room::POOL_ROOM;
 use list_room::WORK_ROOM;
 use meaning::numbers::DONE;
-ghost use Rattle.replay_canonicalise.specs.Headers.{Usable, UsableRow};
-ghost use Rattle.replay_canonicalise.specs.Room.{Enough};
+ghost use mathlib.Core.Path.{_≡_};
+ghost use Rattle.replay_canonicalise.specs.Cases as cases;
 
-// How much of each thing is lent
-pub(crate) struct Sizes {
-    pub(crate) words: usize,
-    pub(crate) entries: usize,
-    pub(crate) work: usize,
-    pub(crate) out_words: usize,
-    pub(crate) out_entries: usize,
-}
+pub(crate) const ROW_WORDS: usize = 11;
 
-pub(crate) struct Case {
-    pub(crate) sizes: Sizes,
-    pub(crate) expected: Expected,
-}
-
-// What stands in a text from an offset on: a case's row, with the offset behind it; nothing but blanks; or a fault,
-// with its offset.
-pub(crate) enum Header {
-    Given { case: Case, next: usize },
-    End,
-    Bad(usize),
-}
-
-// A row with a word that may not stand at its place is bad where it begins.
-pub(crate) fn next_header(text: &[u8], at: usize) -> Header
-    ensures { λ r. ⌜ Usable (now (text .entry)) at r ⌝ }
+// The largest word that may stand at each place of the row: where it is a size, the room that there is.
+pub(crate) fn largest() -> [u64; ROW_WORDS]
+    ensures { λ r. ⌜ r ≡ cases.largest ⌝ }
 {
-    let mut row = [0u64; 11];
-    let reading = next_row(text, at, &mut row);
-    match reading {
-        Row::Whole(next) => header_of(&row, at, next),
-        Row::End => Header::End,
-        Row::Bad(offset) => Header::Bad(offset),
-    }
+    [
+        NODE_ROOM as u64,
+        POOL_ROOM as u64,
+        WORK_ROOM as u64,
+        NODE_ROOM as u64,
+        POOL_ROOM as u64,
+        ANY_WORD,
+        ANY_WORD,
+        ANY_WORD,
+        ANY_WORD,
+        ANY_WORD,
+        1,
+    ]
 }
 
-fn header_of(row: &[u64; 11], at: usize, next: usize) -> Header
-    ensures { λ r. ⌜ UsableRow next r ⌝ }
-{
-    if row[10] > 1 {
-        return Header::Bad(at);
-    }
-    let sizes = sizes_of(row);
-    if !has_room(sizes) {
-        return Header::Bad(at);
-    }
-    Header::Given {
-        case: Case {
-            sizes: sizes,
-            expected: expected_of(row),
-        },
-        next: next,
-    }
-}
-
-fn has_room(sizes: Sizes) -> bool
-    ensures { λ r. ⌜ Enough r sizes ⌝ }
-{
-    if sizes.words > NODE_ROOM {
-        return false;
-    }
-    if sizes.entries > POOL_ROOM {
-        return false;
-    }
-    if sizes.work > WORK_ROOM {
-        return false;
-    }
-    if sizes.out_words > NODE_ROOM {
-        return false;
-    }
-    if sizes.out_entries > POOL_ROOM {
-        return false;
-    }
-    true
-}
-
-fn sizes_of(row: &[u64; 11]) -> Sizes {
-    Sizes {
-        words: row[0] as usize,
-        entries: row[1] as usize,
-        work: row[2] as usize,
-        out_words: row[3] as usize,
-        out_entries: row[4] as usize,
-    }
-}
-
-fn expected_of(row: &[u64; 11]) -> Expected {
+pub(crate) fn expected_of(row: &[u64; ROW_WORDS]) -> Expected {
     Expected {
         number: row[5],
         node: row[6],

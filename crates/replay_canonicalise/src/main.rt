@@ -8,9 +8,11 @@ mod verdicts;
 mod written;
 
 use canonicaliser::canonicalize_expr;
-use cases::Case;
-use cases::Header;
-use cases::next_header;
+use case_rows::next_case_row;
+use cases::ROW_WORDS;
+use cases::expected_of;
+use cases::largest;
+use decimals::Row;
 use judgement::Expected;
 use judgement::Listed;
 use judgement::Seen;
@@ -25,16 +27,20 @@ use list_room::text_room;
 use list_room::work_room;
 use list_words::Entries;
 use list_words::next_list;
-use replay_report::Outcome;
+use replay_report::Tally;
 use replay_report::Turn;
+use replay_report::counted;
+use replay_report::goes_on;
 use replay_report::report;
+use replay_report::started;
 use replay_report::too_long;
 use verdicts::verdict_on;
 use written::Written;
 use written::next_written;
 ghost use Prim.Native.Nat.{_+_, _≤_};
 ghost use lib.ListN.{length};
-ghost use Rattle.replay_canonicalise.specs.Room.{FitsList, FitsSpace, Markable};
+ghost use Rattle.replay_canonicalise.specs.Cases.{Fits};
+ghost use Rattle.replay_canonicalise.specs.Outputs.{Markable};
 ghost use Rattle.replay_report.specs.Turns.{GetsOn};
 
 // ---- one case
@@ -137,20 +143,27 @@ fn tried_in(
 }
 
 // Work space and outputs as long as the case asks. Each case has new room, so that none finds what another left.
-fn with_space(number: u64, case: Case, text: &[u8], at: usize, nodes: &[u32], pool: &[u32]) -> Turn
+fn with_space(
+    number: u64,
+    row: &[u64; ROW_WORDS],
+    text: &[u8],
+    at: usize,
+    nodes: &[u32],
+    pool: &[u32],
+) -> Turn
     requires { ⌜ at ≤ length (now text) ⌝ }
-    requires { ⌜ FitsSpace (case .sizes) ⌝ }
+    requires { ⌜ Fits (now row) ⌝ }
     ensures { λ r. ⌜ GetsOn (length (now (text .entry))) at r ⌝ }
 {
     let mut work = work_room();
     let mut out_nodes = node_room();
     let mut out_pool = pool_room();
-    let asked = case.sizes.work;
-    let words = case.sizes.out_words;
-    let entries = case.sizes.out_entries;
+    let asked = row[2] as usize;
+    let words = row[3] as usize;
+    let entries = row[4] as usize;
     tried_in(
         number,
-        case.expected,
+        expected_of(row),
         text,
         at,
         nodes,
@@ -164,37 +177,36 @@ fn with_space(number: u64, case: Case, text: &[u8], at: usize, nodes: &[u32], po
 // Reads the case's list into what is lent for it, and tries the case.
 fn tried(
     number: u64,
-    case: Case,
+    row: &[u64; ROW_WORDS],
     text: &[u8],
     at: usize,
     nodes: &mut [u32],
     pool: &mut [u32],
 ) -> Turn
     requires { ⌜ at ≤ length (now text) ⌝ }
-    requires { ⌜ FitsSpace (case .sizes) ⌝ }
+    requires { ⌜ Fits (now row) ⌝ }
     ensures { λ r. ⌜ GetsOn (length (now (text .entry))) at r ⌝ }
 {
     let reading = next_list(text, at, nodes, pool);
     match reading {
-        Entries::Whole(next) => with_space(number, case, text, next, nodes, pool),
+        Entries::Whole(next) => with_space(number, row, text, next, nodes, pool),
         Entries::Bad(offset) => Turn::Malformed(offset),
     }
 }
 
 // Node words and pool entries as many as the case has.
-fn in_room(number: u64, case: Case, text: &[u8], at: usize) -> Turn
+fn in_room(number: u64, row: &[u64; ROW_WORDS], text: &[u8], at: usize) -> Turn
     requires { ⌜ at ≤ length (now text) ⌝ }
-    requires { ⌜ FitsList (case .sizes) ⌝ }
-    requires { ⌜ FitsSpace (case .sizes) ⌝ }
+    requires { ⌜ Fits (now row) ⌝ }
     ensures { λ r. ⌜ GetsOn (length (now (text .entry))) at r ⌝ }
 {
     let mut nodes = node_room();
     let mut pool = pool_room();
-    let words = case.sizes.words;
-    let entries = case.sizes.entries;
+    let words = row[0] as usize;
+    let entries = row[1] as usize;
     tried(
         number,
-        case,
+        row,
         text,
         at,
         &mut nodes[..words],
@@ -205,40 +217,25 @@ fn in_room(number: u64, case: Case, text: &[u8], at: usize) -> Turn
 fn next_case(number: u64, text: &[u8], at: usize) -> Turn
     ensures { λ r. ⌜ GetsOn (length (now (text .entry))) (at + 1) r ⌝ }
 {
-    let header = next_header(text, at);
-    match header {
-        Header::Given { case, next } => in_room(number, case, text, next),
-        Header::End => Turn::End,
-        Header::Bad(offset) => Turn::Malformed(offset),
+    let largest = largest();
+    let mut row = [0u64; ROW_WORDS];
+    let reading = next_case_row(text, at, &mut row, &largest);
+    match reading {
+        Row::Whole(next) => in_room(number, &row, text, next),
+        Row::End => Turn::End,
+        Row::Bad(offset) => Turn::Malformed(offset),
     }
 }
 
 // ---- all cases
 
 // Cases are numbered from 1.
-fn replay(text: &[u8]) -> Outcome {
-    let mut at: usize = 0;
-    let mut cases: u64 = 0;
-    let mut differ: u64 = 0;
-    while at < text.len() {
-        let turn = next_case(cases + 1, text, at);
-        match turn {
-            Turn::Tried { next, differ: more } => {
-                cases = cases + 1;
-                differ = differ + more;
-                at = next;
-            }
-            Turn::End => return Outcome::Finished {
-                cases: cases,
-                differ: differ,
-            },
-            Turn::Malformed(offset) => return Outcome::Malformed(offset),
-        }
+fn replay(text: &[u8]) -> Tally {
+    let mut tally = started();
+    while goes_on(tally) {
+        tally = counted(tally, next_case(tally.cases + 1, text, tally.at));
     }
-    Outcome::Finished {
-        cases: cases,
-        differ: differ,
-    }
+    tally
 }
 
 // An input that fills the whole room may go on behind it, and is not replayed in part. The stack must hold the text and

@@ -1,6 +1,4 @@
--- that a case's row gets on in the text
-pub mod Headers
--- that reading its lists does
+-- which words may stand in a case's row
+pub mod Cases
+-- that reading its lists gets on in the text
 pub mod Lists
--- that there is room for a case
-pub mod Room

@@ -4,11 +4,11 @@
 mod cases;
 mod lists;
 
-use cases::Case;
-use cases::Header;
-use cases::next_header;
+use case_rows::next_case_row;
+use cases::largest;
 use comparer::func_equiv;
 use comparison_words::ten_words;
+use decimals::Row;
 use lent_words::fill;
 use lent_words::is_left;
 use list_room::TEXT_ROOM;
@@ -18,15 +18,20 @@ use list_room::pool_room;
 use list_room::text_room;
 use list_words::Entries;
 use lists::next_lists;
-use replay_report::Outcome;
+use replay_report::Tally;
 use replay_report::Turn;
+use replay_report::counted;
+use replay_report::goes_on;
 use replay_report::report;
+use replay_report::started;
 use replay_report::too_long;
 use replay_results::Expected;
+use replay_results::ROW_WORDS;
+use replay_results::expected_of;
 use replay_results::judged;
 ghost use Prim.Native.Nat.{_+_, _≤_};
 ghost use lib.ListN.{length};
-ghost use Rattle.replay_compare.specs.Room.{FitsLists, FitsSpace};
+ghost use Rattle.replay_compare.specs.Cases.{Fits};
 ghost use Rattle.replay_report.specs.Turns.{GetsOn};
 
 // ---- one case
@@ -53,20 +58,20 @@ fn called(
 // Work space as long as the case asks. Each case has new room, so that none finds what another left.
 fn with_space(
     number: u64,
-    case: Case,
+    row: &[u64; ROW_WORDS],
     nodes: &[u32],
     pool: &[u32],
     second_nodes: &[u32],
     second_pool: &[u32],
 ) -> u64
-    requires { ⌜ FitsSpace (case .sizes) ⌝ }
+    requires { ⌜ Fits (now row) ⌝ }
     ensures { λ r. ⌜ r ≤ 1 ⌝ }
 {
     let mut work = pair_work_room();
-    let words = case.sizes.work;
+    let words = row[4] as usize;
     called(
         number,
-        case.expected,
+        expected_of(row),
         nodes,
         pool,
         second_nodes,
@@ -78,7 +83,7 @@ fn with_space(
 // Reads the case's lists into what is lent for them, and tries the case.
 fn tried(
     number: u64,
-    case: Case,
+    row: &[u64; ROW_WORDS],
     text: &[u8],
     at: usize,
     nodes: &mut [u32],
@@ -87,37 +92,36 @@ fn tried(
     second_pool: &mut [u32],
 ) -> Turn
     requires { ⌜ at ≤ length (now text) ⌝ }
-    requires { ⌜ FitsSpace (case .sizes) ⌝ }
+    requires { ⌜ Fits (now row) ⌝ }
     ensures { λ r. ⌜ GetsOn (length (now (text .entry))) at r ⌝ }
 {
     let reading = next_lists(text, at, nodes, pool, second_nodes, second_pool);
     match reading {
         Entries::Whole(next) => Turn::Tried {
             next: next,
-            differ: with_space(number, case, nodes, pool, second_nodes, second_pool),
+            differ: with_space(number, row, nodes, pool, second_nodes, second_pool),
         },
         Entries::Bad(offset) => Turn::Malformed(offset),
     }
 }
 
 // Node words and pool entries as many as the case has.
-fn in_room(number: u64, case: Case, text: &[u8], at: usize) -> Turn
+fn in_room(number: u64, row: &[u64; ROW_WORDS], text: &[u8], at: usize) -> Turn
     requires { ⌜ at ≤ length (now text) ⌝ }
-    requires { ⌜ FitsLists (case .sizes) ⌝ }
-    requires { ⌜ FitsSpace (case .sizes) ⌝ }
+    requires { ⌜ Fits (now row) ⌝ }
     ensures { λ r. ⌜ GetsOn (length (now (text .entry))) at r ⌝ }
 {
     let mut nodes = node_room();
     let mut pool = pool_room();
     let mut second_nodes = node_room();
     let mut second_pool = pool_room();
-    let words = case.sizes.words;
-    let entries = case.sizes.entries;
-    let second_words = case.sizes.second_words;
-    let second_entries = case.sizes.second_entries;
+    let words = row[0] as usize;
+    let entries = row[1] as usize;
+    let second_words = row[2] as usize;
+    let second_entries = row[3] as usize;
     tried(
         number,
-        case,
+        row,
         text,
         at,
         &mut nodes[..words],
@@ -130,40 +134,25 @@ fn in_room(number: u64, case: Case, text: &[u8], at: usize) -> Turn
 fn next_case(number: u64, text: &[u8], at: usize) -> Turn
     ensures { λ r. ⌜ GetsOn (length (now (text .entry))) (at + 1) r ⌝ }
 {
-    let header = next_header(text, at);
-    match header {
-        Header::Given { case, next } => in_room(number, case, text, next),
-        Header::End => Turn::End,
-        Header::Bad(offset) => Turn::Malformed(offset),
+    let largest = largest();
+    let mut row = [0u64; ROW_WORDS];
+    let reading = next_case_row(text, at, &mut row, &largest);
+    match reading {
+        Row::Whole(next) => in_room(number, &row, text, next),
+        Row::End => Turn::End,
+        Row::Bad(offset) => Turn::Malformed(offset),
     }
 }
 
 // ---- all cases
 
 // Cases are numbered from 1.
-fn replay(text: &[u8]) -> Outcome {
-    let mut at: usize = 0;
-    let mut cases: u64 = 0;
-    let mut differ: u64 = 0;
-    while at < text.len() {
-        let turn = next_case(cases + 1, text, at);
-        match turn {
-            Turn::Tried { next, differ: more } => {
-                cases = cases + 1;
-                differ = differ + more;
-                at = next;
-            }
-            Turn::End => return Outcome::Finished {
-                cases: cases,
-                differ: differ,
-            },
-            Turn::Malformed(offset) => return Outcome::Malformed(offset),
-        }
+fn replay(text: &[u8]) -> Tally {
+    let mut tally = started();
+    while goes_on(tally) {
+        tally = counted(tally, next_case(tally.cases + 1, text, tally.at));
     }
-    Outcome::Finished {
-        cases: cases,
-        differ: differ,
-    }
+    tally
 }
 
 // An input that fills the whole room may go on behind it, and is not replayed in part. The stack must hold the text and

@@ -1,8 +1,6 @@
--- that a case's row gets on in the text
-pub mod Headers
--- that reading its list and bytes does
+-- which words may stand in a case's row
+pub mod Cases
+-- that reading its list and bytes gets on in the text
 pub mod Inputs
 -- that reading its pairs does
 pub mod Pairs
--- that there is room for a case
-pub mod Room

@@ -9,10 +9,12 @@ mod room;
 use answer_words::Words;
 use answer_words::same;
 use answer_words::words_of;
-use cases::Case;
+use case_rows::next_case_row;
 use cases::Expected;
-use cases::Header;
-use cases::next_header;
+use cases::ROW_WORDS;
+use cases::expected_of;
+use cases::largest;
+use decimals::Row;
 use evaluator::eval;
 use inputs::next_inputs;
 use lent_words::fill;
@@ -27,9 +29,12 @@ use list_words::Entries;
 use meaning::Refusal;
 use pairs::Pairs;
 use pairs::next_pairs;
-use replay_report::Outcome;
+use replay_report::Tally;
 use replay_report::Turn;
+use replay_report::counted;
+use replay_report::goes_on;
 use replay_report::report;
+use replay_report::started;
 use replay_report::told_answer;
 use replay_report::told_refusal;
 use replay_report::told_work;
@@ -38,7 +43,7 @@ use room::byte_room;
 use room::out_room;
 ghost use Prim.Native.Nat.{_+_, _≤_};
 ghost use lib.ListN.{length};
-ghost use Rattle.replay_evaluate.specs.Room.{FitsInputs, FitsSpace};
+ghost use Rattle.replay_evaluate.specs.Cases.{Fits};
 ghost use Rattle.replay_report.specs.Turns.{GetsOn};
 
 // What is seen of a call: its refusal, the root's answer, whether the work space is as expected, and whether the output
@@ -144,7 +149,7 @@ fn called(
 // Work space and output as long as the case asks. Each case has new room, so that none finds what another left.
 fn with_space(
     number: u64,
-    case: Case,
+    row: &[u64; ROW_WORDS],
     text: &[u8],
     at: usize,
     nodes: &[u32],
@@ -152,16 +157,16 @@ fn with_space(
     bytes: &[u8],
 ) -> Turn
     requires { ⌜ at ≤ length (now text) ⌝ }
-    requires { ⌜ FitsSpace (case .sizes) ⌝ }
+    requires { ⌜ Fits (now row) ⌝ }
     ensures { λ r. ⌜ GetsOn (length (now (text .entry))) at r ⌝ }
 {
     let mut work = work_room();
     let mut out = out_room();
-    let words = case.sizes.work;
-    let places = case.sizes.out;
+    let words = row[3] as usize;
+    let places = row[4] as usize;
     called(
         number,
-        case.expected,
+        expected_of(row),
         text,
         at,
         nodes,
@@ -175,7 +180,7 @@ fn with_space(
 // Reads the case's list and bytes into what is lent for them, and tries the case.
 fn tried(
     number: u64,
-    case: Case,
+    row: &[u64; ROW_WORDS],
     text: &[u8],
     at: usize,
     nodes: &mut [u32],
@@ -183,32 +188,31 @@ fn tried(
     bytes: &mut [u8],
 ) -> Turn
     requires { ⌜ at ≤ length (now text) ⌝ }
-    requires { ⌜ FitsSpace (case .sizes) ⌝ }
+    requires { ⌜ Fits (now row) ⌝ }
     ensures { λ r. ⌜ GetsOn (length (now (text .entry))) at r ⌝ }
 {
     let reading = next_inputs(text, at, nodes, pool, bytes);
     match reading {
-        Entries::Whole(next) => with_space(number, case, text, next, nodes, pool, bytes),
+        Entries::Whole(next) => with_space(number, row, text, next, nodes, pool, bytes),
         Entries::Bad(offset) => Turn::Malformed(offset),
     }
 }
 
 // Node words, pool entries and bytes as many as the case has.
-fn in_room(number: u64, case: Case, text: &[u8], at: usize) -> Turn
+fn in_room(number: u64, row: &[u64; ROW_WORDS], text: &[u8], at: usize) -> Turn
     requires { ⌜ at ≤ length (now text) ⌝ }
-    requires { ⌜ FitsInputs (case .sizes) ⌝ }
-    requires { ⌜ FitsSpace (case .sizes) ⌝ }
+    requires { ⌜ Fits (now row) ⌝ }
     ensures { λ r. ⌜ GetsOn (length (now (text .entry))) at r ⌝ }
 {
     let mut nodes = node_room();
     let mut pool = pool_room();
     let mut bytes = byte_room();
-    let words = case.sizes.words;
-    let entries = case.sizes.entries;
-    let count = case.sizes.bytes;
+    let words = row[0] as usize;
+    let entries = row[1] as usize;
+    let count = row[2] as usize;
     tried(
         number,
-        case,
+        row,
         text,
         at,
         &mut nodes[..words],
@@ -220,40 +224,25 @@ fn in_room(number: u64, case: Case, text: &[u8], at: usize) -> Turn
 fn next_case(number: u64, text: &[u8], at: usize) -> Turn
     ensures { λ r. ⌜ GetsOn (length (now (text .entry))) (at + 1) r ⌝ }
 {
-    let header = next_header(text, at);
-    match header {
-        Header::Given { case, next } => in_room(number, case, text, next),
-        Header::End => Turn::End,
-        Header::Bad(offset) => Turn::Malformed(offset),
+    let largest = largest();
+    let mut row = [0u64; ROW_WORDS];
+    let reading = next_case_row(text, at, &mut row, &largest);
+    match reading {
+        Row::Whole(next) => in_room(number, &row, text, next),
+        Row::End => Turn::End,
+        Row::Bad(offset) => Turn::Malformed(offset),
     }
 }
 
 // ---- all cases
 
 // Cases are numbered from 1.
-fn replay(text: &[u8]) -> Outcome {
-    let mut at: usize = 0;
-    let mut cases: u64 = 0;
-    let mut differ: u64 = 0;
-    while at < text.len() {
-        let turn = next_case(cases + 1, text, at);
-        match turn {
-            Turn::Tried { next, differ: more } => {
-                cases = cases + 1;
-                differ = differ + more;
-                at = next;
-            }
-            Turn::End => return Outcome::Finished {
-                cases: cases,
-                differ: differ,
-            },
-            Turn::Malformed(offset) => return Outcome::Malformed(offset),
-        }
+fn replay(text: &[u8]) -> Tally {
+    let mut tally = started();
+    while goes_on(tally) {
+        tally = counted(tally, next_case(tally.cases + 1, text, tally.at));
     }
-    Outcome::Finished {
-        cases: cases,
-        differ: differ,
-    }
+    tally
 }
 
 // An input that fills the whole room may go on behind it, and is not replayed in part. The stack must hold the text and

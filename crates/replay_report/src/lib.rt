@@ -1,24 +1,27 @@
 // What a program that reads cases from standard input says: which differ, how many there were and how many differ, or
 // what is wrong with its input. No contract can say what is written; each replay's output is recorded. Beside it the
-// turn over one case, by which a replay's loop goes and ends (specs/Turns.antt: it gets on in the text).
+// turn over one case (specs/Turns.antt: it gets on in the text) and the tally of all turns, by which a replay's loop goes
+// and ends.
 mod differs;
+mod tally;
 mod turn;
 
 pub use differs::told_answer;
 pub use differs::told_refusal;
 pub use differs::told_work;
 use libc::STDOUT_FILENO;
+pub use tally::Stage;
+pub use tally::Tally;
+pub use tally::counted;
+pub use tally::goes_on;
+pub use tally::started;
 pub use turn::Turn;
 
-pub enum Outcome {
-    Finished { cases: u64, differ: u64 },
-    Malformed(usize),
-}
-
-pub fn report(outcome: Outcome, usage: &[u8]) {
-    match outcome {
-        Outcome::Finished { cases, differ } => count(cases, differ, usage),
-        Outcome::Malformed(offset) => malformed(offset),
+pub fn report(tally: Tally, usage: &[u8]) {
+    let stage = tally.stage;
+    match stage {
+        Stage::Faulty(offset) => malformed(offset),
+        _ => count(tally.cases, tally.differ, usage),
     }
 }
 

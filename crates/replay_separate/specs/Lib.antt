@@ -1,4 +1,2 @@
--- that a case's row gets on in the text
-pub mod Headers
--- that there is room for a case
-pub mod Room
+-- which words may stand in a case's row
+pub mod Cases

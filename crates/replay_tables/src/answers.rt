@@ -1,4 +1,5 @@
 // What the routine that a row names answers, and whether that is what the row expects.
+use super::rows::ROW_WORDS;
 use table_words::Words;
 use table_words::of_bit_vector;
 use table_words::of_cofactors;
@@ -9,14 +10,14 @@ ghost use mathlib.Core.Path.{_≡_};
 ghost use Prim.Native.Nat.{_≤_};
 ghost use lib.ListN.{length};
 
-pub(crate) fn agrees(row: &[u64; 17]) -> bool {
+pub(crate) fn agrees(row: &[u64; ROW_WORDS]) -> bool {
     let bytes = input_bytes(row);
     let count = input_count(row);
     let given = answer(row, &bytes[..count]);
     table_words::same(given, expected(row))
 }
 
-fn expected(row: &[u64; 17]) -> Words {
+fn expected(row: &[u64; ROW_WORDS]) -> Words {
     Words {
         number: row[5],
         first: row[6],
@@ -24,7 +25,7 @@ fn expected(row: &[u64; 17]) -> Words {
     }
 }
 
-fn answer(row: &[u64; 17], inputs: &[u8]) -> Words {
+fn answer(row: &[u64; ROW_WORDS], inputs: &[u8]) -> Words {
     let p = row[1];
     let size = row[2];
     match row[0] {
@@ -40,7 +41,7 @@ fn answer(row: &[u64; 17], inputs: &[u8]) -> Words {
 
 // ---- the input bytes of a row
 
-fn input_count(row: &[u64; 17]) -> usize
+fn input_count(row: &[u64; ROW_WORDS]) -> usize
     ensures { λ r. ⌜ r ≤ 8 ⌝ }
 {
     let count = row[8];
@@ -50,7 +51,7 @@ fn input_count(row: &[u64; 17]) -> usize
     count as usize
 }
 
-fn input_bytes(row: &[u64; 17]) -> [u8; 8]
+fn input_bytes(row: &[u64; ROW_WORDS]) -> [u8; 8]
     ensures { λ r. ⌜ 8 ≡ length r ⌝ }
 {
     let mut bytes = [0u8; 8];

@@ -4,19 +4,25 @@ mod answers;
 mod rows;
 
 use answers::agrees;
+use case_rows::next_case_row;
 use decimals::Row;
-use decimals::next_row;
 use libc::STDOUT_FILENO;
-use replay_report::Outcome;
+use replay_report::Tally;
+use replay_report::Turn;
+use replay_report::counted;
+use replay_report::goes_on;
 use replay_report::report;
+use replay_report::started;
 use replay_report::too_long;
-use rows::well_formed;
+use rows::ROW_WORDS;
+use rows::largest;
 ghost use mathlib.Core.Path.{_≡_};
-ghost use Prim.Native.Nat.{_≤_};
+ghost use Prim.Native.Nat.{_+_, _≤_};
 ghost use lib.ListN.{length};
+ghost use Rattle.replay_report.specs.Turns.{GetsOn};
 
 // Says so where a case differs; the answer is 1 then, and else 0.
-fn tried(case: u64, row: &[u64; 17]) -> u64
+fn tried(case: u64, row: &[u64; ROW_WORDS]) -> u64
     ensures { λ r. ⌜ r ≤ 1 ⌝ }
 {
     if agrees(row) {
@@ -28,35 +34,29 @@ fn tried(case: u64, row: &[u64; 17]) -> u64
     1
 }
 
-// Cases are numbered from 1, so that a case's number is its line's in a text of one case to a line. A row with a word that
-// may not stand at its place is malformed where it begins.
-fn replay(text: &[u8]) -> Outcome {
-    let mut row = [0u64; 17];
-    let mut at: usize = 0;
-    let mut cases: u64 = 0;
-    let mut differ: u64 = 0;
-    while at < text.len() {
-        let reading = next_row(text, at, &mut row);
-        match reading {
-            Row::Whole(next) => {
-                if !well_formed(&row) {
-                    return Outcome::Malformed(at);
-                }
-                cases = cases + 1;
-                differ = differ + tried(cases, &row);
-                at = next;
-            }
-            Row::End => return Outcome::Finished {
-                cases: cases,
-                differ: differ,
-            },
-            Row::Bad(offset) => return Outcome::Malformed(offset),
-        }
+fn next_case(number: u64, text: &[u8], at: usize) -> Turn
+    ensures { λ r. ⌜ GetsOn (length (now (text .entry))) (at + 1) r ⌝ }
+{
+    let largest = largest();
+    let mut row = [0u64; ROW_WORDS];
+    let reading = next_case_row(text, at, &mut row, &largest);
+    match reading {
+        Row::Whole(next) => Turn::Tried {
+            next: next,
+            differ: tried(number, &row),
+        },
+        Row::End => Turn::End,
+        Row::Bad(offset) => Turn::Malformed(offset),
     }
-    Outcome::Finished {
-        cases: cases,
-        differ: differ,
+}
+
+// Cases are numbered from 1, so that a case's number is its line's in a text of one case to a line.
+fn replay(text: &[u8]) -> Tally {
+    let mut tally = started();
+    while goes_on(tally) {
+        tally = counted(tally, next_case(tally.cases + 1, text, tally.at));
     }
+    tally
 }
 
 // The `ensures` gives only the length, which lending the array needs.

@@ -1,2 +1,2 @@
--- what a case's row gives, and room for it
-pub mod Headers
+-- which words may stand in a case's row
+pub mod Cases

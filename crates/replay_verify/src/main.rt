@@ -3,9 +3,12 @@
 // vectors/verify.py, which has the answers from a model of document 01.
 mod cases;
 
-use cases::Case;
-use cases::Header;
-use cases::next_header;
+use case_rows::next_case_row;
+use cases::Expected;
+use cases::ROW_WORDS;
+use cases::expected_of;
+use cases::largest;
+use decimals::Row;
 use lent_words::fill;
 use lent_words::is_left;
 use libc::STDOUT_FILENO;
@@ -17,16 +20,19 @@ use list_room::work_room;
 use list_words::Entries;
 use list_words::next_list;
 use meaning::Refusal;
-use replay_report::Outcome;
+use replay_report::Tally;
 use replay_report::Turn;
+use replay_report::counted;
+use replay_report::goes_on;
 use replay_report::report;
+use replay_report::started;
 use replay_report::told_refusal;
 use replay_report::told_work;
 use replay_report::too_long;
 use verifier::verify_expr;
 ghost use Prim.Native.Nat.{_+_, _≤_};
 ghost use lib.ListN.{length};
-ghost use Rattle.replay_verify.specs.Headers.{Fits, Roomy};
+ghost use Rattle.replay_verify.specs.Cases.{Fits};
 ghost use Rattle.replay_report.specs.Turns.{GetsOn};
 
 // ---- one case
@@ -37,129 +43,99 @@ fn told(number: u64, given: Refusal, left: bool) {
     io::write_all(STDOUT_FILENO, b"\n");
 }
 
-fn is_answer(given: Refusal, case: Case) -> bool {
-    given.number as u64 == case.number && given.node as u64 == case.node
+fn is_answer(given: Refusal, expected: Expected) -> bool {
+    given.number as u64 == expected.number && given.node as u64 == expected.node
 }
 
 // Says so where the case differs; the answer is 1 then, and else 0.
-fn compared(number: u64, case: Case, nodes: &[u32], pool: &[u32], lent: &mut [u64]) -> u64
+fn compared(number: u64, expected: Expected, nodes: &[u32], pool: &[u32], work: &mut [u64]) -> u64
     ensures { λ r. ⌜ r ≤ 1 ⌝ }
 {
-    fill(lent);
-    let given = verify_expr(nodes, pool, lent);
-    let left = is_left(lent, 0, case.cleared);
-    if is_answer(given, case) && left {
+    fill(work);
+    let given = verify_expr(nodes, pool, work);
+    let left = is_left(work, 0, expected.cleared);
+    if is_answer(given, expected) && left {
         return 0;
     }
     told(number, given, left);
     1
 }
 
+// Work space as long as the case asks. Each case has new room, so that none finds what another left.
+fn with_space(number: u64, row: &[u64; ROW_WORDS], nodes: &[u32], pool: &[u32]) -> u64
+    requires { ⌜ Fits (now row) ⌝ }
+    ensures { λ r. ⌜ r ≤ 1 ⌝ }
+{
+    let mut work = work_room();
+    let words = row[2] as usize;
+    compared(number, expected_of(row), nodes, pool, &mut work[..words])
+}
+
 // Reads the case's list into what is lent for it, and tries the case.
 fn tried(
     number: u64,
-    case: Case,
+    row: &[u64; ROW_WORDS],
     text: &[u8],
     at: usize,
     nodes: &mut [u32],
     pool: &mut [u32],
-    work: &mut [u64],
 ) -> Turn
     requires { ⌜ at ≤ length (now text) ⌝ }
+    requires { ⌜ Fits (now row) ⌝ }
     ensures { λ r. ⌜ GetsOn (length (now (text .entry))) at r ⌝ }
 {
     let reading = next_list(text, at, nodes, pool);
     match reading {
         Entries::Whole(next) => Turn::Tried {
             next: next,
-            differ: compared(number, case, nodes, pool, work),
+            differ: with_space(number, row, nodes, pool),
         },
         Entries::Bad(offset) => Turn::Malformed(offset),
     }
 }
 
-// Lends of the room what the case says.
-fn in_room(
-    number: u64,
-    case: Case,
-    text: &[u8],
-    at: usize,
-    nodes: &mut [u32],
-    pool: &mut [u32],
-    work: &mut [u64],
-) -> Turn
+// Node words and pool entries as many as the case has.
+fn in_room(number: u64, row: &[u64; ROW_WORDS], text: &[u8], at: usize) -> Turn
     requires { ⌜ at ≤ length (now text) ⌝ }
-    requires { ⌜ Fits case (length (now nodes)) (length (now pool)) (length (now work)) ⌝ }
+    requires { ⌜ Fits (now row) ⌝ }
     ensures { λ r. ⌜ GetsOn (length (now (text .entry))) at r ⌝ }
 {
-    let words = case.words;
-    let entries = case.entries;
-    let room = case.room;
+    let mut nodes = node_room();
+    let mut pool = pool_room();
+    let words = row[0] as usize;
+    let entries = row[1] as usize;
     tried(
         number,
-        case,
+        row,
         text,
         at,
         &mut nodes[..words],
         &mut pool[..entries],
-        &mut work[..room],
     )
 }
 
-fn next_case(
-    number: u64,
-    text: &[u8],
-    at: usize,
-    nodes: &mut [u32],
-    pool: &mut [u32],
-    work: &mut [u64],
-) -> Turn
-    requires { ⌜ Roomy (length (now nodes)) (length (now pool)) (length (now work)) ⌝ }
+fn next_case(number: u64, text: &[u8], at: usize) -> Turn
     ensures { λ r. ⌜ GetsOn (length (now (text .entry))) (at + 1) r ⌝ }
 {
-    let header = next_header(text, at);
-    match header {
-        Header::Given { case, next } => in_room(number, case, text, next, nodes, pool, work),
-        Header::End => Turn::End,
-        Header::Bad(offset) => Turn::Malformed(offset),
+    let largest = largest();
+    let mut row = [0u64; ROW_WORDS];
+    let reading = next_case_row(text, at, &mut row, &largest);
+    match reading {
+        Row::Whole(next) => in_room(number, &row, text, next),
+        Row::End => Turn::End,
+        Row::Bad(offset) => Turn::Malformed(offset),
     }
 }
 
 // ---- all cases
 
-// Cases are numbered from 1. The lent slices are room for a case's list and work space.
-fn replay(text: &[u8], nodes: &mut [u32], pool: &mut [u32], work: &mut [u64]) -> Outcome
-    requires { ⌜ Roomy (length (now nodes)) (length (now pool)) (length (now work)) ⌝ }
-{
-    let mut at: usize = 0;
-    let mut cases: u64 = 0;
-    let mut differ: u64 = 0;
-    while at < text.len() {
-        let turn = next_case(cases + 1, text, at, nodes, pool, work);
-        match turn {
-            Turn::Tried { next, differ: more } => {
-                cases = cases + 1;
-                differ = differ + more;
-                at = next;
-            }
-            Turn::End => return Outcome::Finished {
-                cases: cases,
-                differ: differ,
-            },
-            Turn::Malformed(offset) => return Outcome::Malformed(offset),
-        }
+// Cases are numbered from 1.
+fn replay(text: &[u8]) -> Tally {
+    let mut tally = started();
+    while goes_on(tally) {
+        tally = counted(tally, next_case(tally.cases + 1, text, tally.at));
     }
-    Outcome::Finished {
-        cases: cases,
-        differ: differ,
-    }
-}
-
-fn replayed(text: &[u8]) -> Outcome {
-    let mut nodes = node_room();
-    let mut pool = pool_room();
-    let mut work = work_room();
-    replay(text, &mut nodes, &mut pool, &mut work)
+    tally
 }
 
 // An input that fills the whole room may go on behind it, and is not replayed in part. The stack must hold the text and
@@ -172,7 +148,7 @@ fn main() {
         return;
     }
     report(
-        replayed(&text[..n]),
+        replay(&text[..n]),
         b"replay_verify < FILE, with cases of decimal words as vectors/verify.py makes them",
     );
 }

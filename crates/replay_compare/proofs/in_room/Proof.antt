@@ -1,7 +1,9 @@
--- `in_room` lends parts that are there, since the case fits.
+-- `in_room` lends parts that are there, since the row fits.
 use lib.Seq.{length-take-le}
+use lib.ListN.{getD}
 use native.Mathlib.Omega.{arith}
 use mathlib.Core.Path.{sym}
+use Rattle.replay_compare.specs.Cases.{words-fit, entries-fit, second-words-fit, second-entries-fit}
 use borrow.Author.Needs.{needs}
 use Rattle.replay_compare.proofs.in_room.Statement.{statement}
 use Rattle.replay_compare.proofs.in_room.Tie as tie
@@ -18,37 +20,57 @@ node-room-requires-2 c κs = search needs
 pool-room-requires-2 : tie.Need-pool-room-requires-2
 pool-room-requires-2 c κs = search needs
 
+element-copy-out-words : tie.Need-element-copy-out-words
+element-copy-out-words c = search needs
+
+element-copy-out-entries : tie.Need-element-copy-out-entries
+element-copy-out-entries c = search needs
+
+element-copy-out-second-words : tie.Need-element-copy-out-second-words
+element-copy-out-second-words c = search needs
+
+element-copy-out-second-entries : tie.Need-element-copy-out-second-entries
+element-copy-out-second-entries c = search needs
+
 array-borrow-prefix-nodes : tie.Need-array-borrow-prefix-nodes
-array-borrow-prefix-nodes c = search needs
+array-borrow-prefix-nodes c =
+    let s = c .before .before .before .before .before .before .before .before .before in
+    omega (arith, words-fit (s .args .row .now) (s .pre .1))
 
 slice-aggregate-tried : tie.Need-slice-aggregate-tried
 slice-aggregate-tried c =
-    let s = c .before .before .before .before .before .before in
-    sym (length-take-le (s .args .case .sizes .words) (c .before .before .before .before .node-room .result) (omega (arith, s .pre .1 .0 .0)))
+    let s = c .before .before .before .before .before .before .before .before .before .before in
+    sym (length-take-le (getD (s .args .row .now) 0 0) (c .before .before .before .before .before .before .before .before .node-room .result) (omega (arith, words-fit (s .args .row .now) (s .pre .1))))
 
 array-borrow-prefix-pool : tie.Need-array-borrow-prefix-pool
-array-borrow-prefix-pool c = search needs
+array-borrow-prefix-pool c =
+    let s = c .before .before .before .before .before .before .before .before .before .before in
+    omega (arith, entries-fit (s .args .row .now) (s .pre .1))
 
 slice-aggregate-tried-2 : tie.Need-slice-aggregate-tried-2
 slice-aggregate-tried-2 c =
-    let s = c .before .before .before .before .before .before .before in
-    sym (length-take-le (s .args .case .sizes .entries) (c .before .before .before .before .pool-room .result) (omega (arith, s .pre .1 .0 .1)))
+    let s = c .before .before .before .before .before .before .before .before .before .before .before in
+    sym (length-take-le (getD (s .args .row .now) 1 0) (c .before .before .before .before .before .before .before .before .pool-room .result) (omega (arith, entries-fit (s .args .row .now) (s .pre .1))))
 
 array-borrow-prefix-second-nodes : tie.Need-array-borrow-prefix-second-nodes
-array-borrow-prefix-second-nodes c = search needs
+array-borrow-prefix-second-nodes c =
+    let s = c .before .before .before .before .before .before .before .before .before .before .before in
+    omega (arith, second-words-fit (s .args .row .now) (s .pre .1))
 
 slice-aggregate-tried-3 : tie.Need-slice-aggregate-tried-3
 slice-aggregate-tried-3 c =
-    let s = c .before .before .before .before .before .before .before .before in
-    sym (length-take-le (s .args .case .sizes .«second_words») (c .before .before .before .before .node-room2 .result) (omega (arith, s .pre .1 .0 .2)))
+    let s = c .before .before .before .before .before .before .before .before .before .before .before .before in
+    sym (length-take-le (getD (s .args .row .now) 2 0) (c .before .before .before .before .before .before .before .before .node-room2 .result) (omega (arith, second-words-fit (s .args .row .now) (s .pre .1))))
 
 array-borrow-prefix-second-pool : tie.Need-array-borrow-prefix-second-pool
-array-borrow-prefix-second-pool c = search needs
+array-borrow-prefix-second-pool c =
+    let s = c .before .before .before .before .before .before .before .before .before .before .before .before in
+    omega (arith, second-entries-fit (s .args .row .now) (s .pre .1))
 
 slice-aggregate-tried-4 : tie.Need-slice-aggregate-tried-4
 slice-aggregate-tried-4 c =
-    let s = c .before .before .before .before .before .before .before .before .before in
-    sym (length-take-le (s .args .case .sizes .«second_entries») (c .before .before .before .before .pool-room2 .result) (omega (arith, s .pre .1 .0 .3)))
+    let s = c .before .before .before .before .before .before .before .before .before .before .before .before .before in
+    sym (length-take-le (getD (s .args .row .now) 3 0) (c .before .before .before .before .before .before .before .before .pool-room2 .result) (omega (arith, second-entries-fit (s .args .row .now) (s .pre .1))))
 
 tried-requires : tie.Need-tried-requires
 tried-requires c κs = search needs
@@ -64,6 +86,10 @@ in-room-spec =
     pool-room-requires
     node-room-requires-2
     pool-room-requires-2
+    element-copy-out-words
+    element-copy-out-entries
+    element-copy-out-second-words
+    element-copy-out-second-entries
     array-borrow-prefix-nodes
     slice-aggregate-tried
     array-borrow-prefix-pool

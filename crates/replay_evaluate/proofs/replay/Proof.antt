@@ -1,63 +1,50 @@
--- `replay` is safe and ends. The invariant: no more cases than bytes passed, and no more differences than cases.
-use Rattle.replay_report.specs.Turns.{GetsOn}
-use borrow.Author.Needs.{needs}
-use mathlib.Core.Path.{subst}
-use native.Mathlib.Omega.{arith}
-use Prim.Native.Nat.{_+_, _-_, _≤_}
+-- `replay` is safe and ends, by what each turn of its tally gives.
 use lib.ListN.{length}
+use native.Mathlib.Omega.{arith}
+use mathlib.Core.Path.{sym, _∙_}
+use Rattle.replay_report.specs.Tallies.{Within, ahead, started-within, within-countable, one-turn}
+use borrow.Author.Needs.{needs}
 use Rattle.replay_evaluate.proofs.replay.Statement.{statement}
 use Rattle.replay_evaluate.proofs.replay.Tie as tie
 
 abbrev Inv-loop : tie.InvT-loop
-Inv-loop text at₀ cases₀ differ₀ at cases differ = (at ≤ length text) × (cases ≤ at) × (differ ≤ cases)
+Inv-loop text tally₀ tally = Within (length text) tally
 
 abbrev μ-loop : tie.MeasureT-loop
-μ-loop text at₀ cases₀ differ₀ at cases differ = length text - at
+μ-loop text tally₀ tally = ahead (length text) tally
+
+started-requires : tie.Need-started-requires Inv-loop μ-loop
+started-requires c κs = search needs
 
 loop-holds : tie.Need-loop-holds Inv-loop μ-loop
-loop-holds c = (omega arith, omega arith, omega arith)
+loop-holds c = started-within (length (c .before .before .args .text .now)) (c .started .ensures)
+
+goes-on-requires : tie.Need-goes-on-requires Inv-loop μ-loop
+goes-on-requires c κs = search needs
 
 add-next-case : tie.Need-add-next-case Inv-loop μ-loop
-add-next-case c = search needs
+add-next-case c = omega (arith, c .before .before .before .loop .inv .0, c .before .before .before .loop .inv .1)
 
 next-case-requires : tie.Need-next-case-requires Inv-loop μ-loop
 next-case-requires c κs = search needs
 
-enum-known-turn : tie.Need-enum-known-turn Inv-loop μ-loop
-enum-known-turn c = search needs
-
-add-cases : tie.Need-add-cases Inv-loop μ-loop
-add-cases c = search needs
-
-add-differ : tie.Need-add-differ Inv-loop μ-loop
-add-differ c = let l = c .before .before .before .before .before .loop in
-    let on = subst (GetsOn (length (c .before .before .before .before .before .before .before .args .text .now)) (l .at + 1)) (c .before .turn .given .1) (c .before .before .before .next-case .ensures) in
-    omega (arith, on .2)
+counted-requires : tie.Need-counted-requires Inv-loop μ-loop
+counted-requires c κs =
+    let l = c .before .before .before .before .loop in
+    within-countable (length (c .before .before .before .before .before .before .before .args .text .now)) (l .tally) (c .next-case .result) (omega arith) (l .inv) (c .next-case .ensures)
 
 loop-less : tie.Need-loop-less Inv-loop μ-loop
-loop-less c = let l = c .before .before .before .before .before .loop in
-    let on = subst (GetsOn (length (c .before .before .before .before .before .before .before .args .text .now)) (l .at + 1)) (c .before .turn .given .1) (c .before .before .before .next-case .ensures) in
-    omega (arith, on .0, on .1)
+loop-less c =
+    let l = c .before .before .before .before .before .loop in
+    one-turn (length (c .before .before .before .before .before .before .before .before .args .text .now)) (l .tally) (c .before .next-case .result) (c .counted .ensures) (sym (c .before .before .before .before .goes-on .ensures) ∙ c .before .before .before .if1 .taken) (l .inv) (c .before .next-case .ensures) .1
 
 loop-again : tie.Need-loop-again Inv-loop μ-loop
-loop-again c = let l = c .before .before .before .before .before .loop in
-    let on = subst (GetsOn (length (c .before .before .before .before .before .before .before .args .text .now)) (l .at + 1)) (c .before .turn .given .1) (c .before .before .before .next-case .ensures) in
-    (on .1, omega (arith, on .0, l .inv .1), omega (arith, on .2, l .inv .2))
-
-enum-told : tie.Need-enum-told Inv-loop μ-loop
-enum-told c = search needs
+loop-again c =
+    let l = c .before .before .before .before .before .loop in
+    one-turn (length (c .before .before .before .before .before .before .before .before .args .text .now)) (l .tally) (c .before .next-case .result) (c .counted .ensures) (sym (c .before .before .before .before .goes-on .ensures) ∙ c .before .before .before .if1 .taken) (l .inv) (c .before .next-case .ensures) .0
 
 returns : tie.Need-returns Inv-loop μ-loop
 returns c = search needs
-
-enum-known-turn-2 : tie.Need-enum-known-turn-2 Inv-loop μ-loop
-enum-known-turn-2 c = search needs
-
-returns-2 : tie.Need-returns-2 Inv-loop μ-loop
-returns-2 c = search needs
-
-returns-3 : tie.Need-returns-3 Inv-loop μ-loop
-returns-3 c = search needs
 
 pub replay-spec : {M : Type 1} → statement M
 replay-spec =
@@ -65,16 +52,12 @@ replay-spec =
     (tie.spec
     Inv-loop
     μ-loop
+    started-requires
     loop-holds
+    goes-on-requires
     add-next-case
     next-case-requires
-    enum-known-turn
-    add-cases
-    add-differ
+    counted-requires
     loop-less
     loop-again
-    enum-told
-    returns
-    enum-known-turn-2
-    returns-2
-    returns-3)
+    returns)

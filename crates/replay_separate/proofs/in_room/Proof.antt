@@ -1,7 +1,9 @@
--- `in_room` lends parts that are there, since the case fits.
+-- `in_room` lends parts that are there, since the row fits.
 use lib.Seq.{length-take-le}
+use lib.ListN.{getD}
 use native.Mathlib.Omega.{arith}
 use mathlib.Core.Path.{sym}
+use Rattle.replay_separate.specs.Cases.{words-fit, entries-fit}
 use borrow.Author.Needs.{needs}
 use Rattle.replay_separate.proofs.in_room.Statement.{statement}
 use Rattle.replay_separate.proofs.in_room.Tie as tie
@@ -12,21 +14,31 @@ node-room-requires c κs = search needs
 pool-room-requires : tie.Need-pool-room-requires
 pool-room-requires c κs = search needs
 
+element-copy-out-words : tie.Need-element-copy-out-words
+element-copy-out-words c = search needs
+
+element-copy-out-entries : tie.Need-element-copy-out-entries
+element-copy-out-entries c = search needs
+
 array-borrow-prefix-nodes : tie.Need-array-borrow-prefix-nodes
-array-borrow-prefix-nodes c = search needs
+array-borrow-prefix-nodes c =
+    let s = c .before .before .before .before .before in
+    omega (arith, words-fit (s .args .row .now) (s .pre .1))
 
 slice-aggregate-tried : tie.Need-slice-aggregate-tried
 slice-aggregate-tried c =
-    let s = c .before .before .before .before in
-    sym (length-take-le (s .args .case .sizes .words) (c .before .before .node-room .result) (omega (arith, s .pre .1 .0 .0)))
+    let s = c .before .before .before .before .before .before in
+    sym (length-take-le (getD (s .args .row .now) 0 0) (c .before .before .before .before .node-room .result) (omega (arith, words-fit (s .args .row .now) (s .pre .1))))
 
 array-borrow-prefix-pool : tie.Need-array-borrow-prefix-pool
-array-borrow-prefix-pool c = search needs
+array-borrow-prefix-pool c =
+    let s = c .before .before .before .before .before .before in
+    omega (arith, entries-fit (s .args .row .now) (s .pre .1))
 
 slice-aggregate-tried-2 : tie.Need-slice-aggregate-tried-2
 slice-aggregate-tried-2 c =
-    let s = c .before .before .before .before .before in
-    sym (length-take-le (s .args .case .sizes .entries) (c .before .before .pool-room .result) (omega (arith, s .pre .1 .0 .1)))
+    let s = c .before .before .before .before .before .before .before in
+    sym (length-take-le (getD (s .args .row .now) 1 0) (c .before .before .before .before .pool-room .result) (omega (arith, entries-fit (s .args .row .now) (s .pre .1))))
 
 tried-requires : tie.Need-tried-requires
 tried-requires c κs = search needs
@@ -40,6 +52,8 @@ in-room-spec =
     (tie.spec
     node-room-requires
     pool-room-requires
+    element-copy-out-words
+    element-copy-out-entries
     array-borrow-prefix-nodes
     slice-aggregate-tried
     array-borrow-prefix-pool

@@ -1,7 +1,9 @@
--- `with_space` lends a part that is there, since the case fits.
+-- `with_space` lends a part that is there, since the row fits.
 use lib.Seq.{length-take-le}
+use lib.ListN.{getD}
 use native.Mathlib.Omega.{arith}
 use mathlib.Core.Path.{sym}
+use Rattle.replay_separate.specs.Cases.{work-fits, n-fits, marks-fit}
 use borrow.Author.Needs.{needs}
 use Rattle.replay_separate.proofs.with_space.Statement.{statement}
 use Rattle.replay_separate.proofs.with_space.Tie as tie
@@ -9,13 +11,26 @@ use Rattle.replay_separate.proofs.with_space.Tie as tie
 work-room-requires : tie.Need-work-room-requires
 work-room-requires c κs = search needs
 
+element-copy-out-words : tie.Need-element-copy-out-words
+element-copy-out-words c = search needs
+
+bounds-of-requires : tie.Need-bounds-of-requires
+bounds-of-requires c κs =
+    let s = c .before .before .before .before in
+    (n-fits (s .args .row .now) (s .pre), marks-fit (s .args .row .now) (s .pre))
+
+expected-of-requires : tie.Need-expected-of-requires
+expected-of-requires c κs = search needs
+
 array-borrow-prefix-work : tie.Need-array-borrow-prefix-work
-array-borrow-prefix-work c = search needs
+array-borrow-prefix-work c =
+    let s = c .before .before .before .before .before .before in
+    omega (arith, work-fits (s .args .row .now) (s .pre))
 
 slice-aggregate-called : tie.Need-slice-aggregate-called
 slice-aggregate-called c =
-    let s = c .before .before .before .before in
-    sym (length-take-le (s .args .case .sizes .work) (c .before .work-room .result) (omega (arith, s .pre)))
+    let s = c .before .before .before .before .before .before .before in
+    sym (length-take-le (getD (s .args .row .now) 4 0) (c .before .before .before .before .work-room .result) (omega (arith, work-fits (s .args .row .now) (s .pre))))
 
 called-requires : tie.Need-called-requires
 called-requires c κs = search needs
@@ -28,6 +43,9 @@ with-space-spec =
     tie.close
     (tie.spec
     work-room-requires
+    element-copy-out-words
+    bounds-of-requires
+    expected-of-requires
     array-borrow-prefix-work
     slice-aggregate-called
     called-requires

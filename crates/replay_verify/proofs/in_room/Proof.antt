@@ -1,45 +1,47 @@
--- `in_room` lends parts that are there, since the case fits.
+-- `in_room` lends parts that are there, since the row fits.
 use lib.Seq.{length-take-le}
+use lib.ListN.{getD}
+use native.Mathlib.Omega.{arith}
 use mathlib.Core.Path.{sym}
+use Rattle.replay_verify.specs.Cases.{words-fit, entries-fit}
 use borrow.Author.Needs.{needs}
 use Rattle.replay_verify.proofs.in_room.Statement.{statement}
 use Rattle.replay_verify.proofs.in_room.Tie as tie
 
-slice-relend-prefix-tried : tie.Need-slice-relend-prefix-tried
-slice-relend-prefix-tried c = search needs
+node-room-requires : tie.Need-node-room-requires
+node-room-requires c κs = search needs
+
+pool-room-requires : tie.Need-pool-room-requires
+pool-room-requires c κs = search needs
+
+element-copy-out-words : tie.Need-element-copy-out-words
+element-copy-out-words c = search needs
+
+element-copy-out-entries : tie.Need-element-copy-out-entries
+element-copy-out-entries c = search needs
+
+array-borrow-prefix-nodes : tie.Need-array-borrow-prefix-nodes
+array-borrow-prefix-nodes c =
+    let s = c .before .before .before .before .before in
+    omega (arith, words-fit (s .args .row .now) (s .pre .1))
 
 slice-aggregate-tried : tie.Need-slice-aggregate-tried
 slice-aggregate-tried c =
-    let s = c .before .before .before .before .before in
-    sym (length-take-le (s .args .case .words) (s .args .nodes .now) (s .pre .1 .0))
+    let s = c .before .before .before .before .before .before in
+    sym (length-take-le (getD (s .args .row .now) 0 0) (c .before .before .before .before .node-room .result) (omega (arith, words-fit (s .args .row .now) (s .pre .1))))
 
-slice-relend-prefix-tried-2 : tie.Need-slice-relend-prefix-tried-2
-slice-relend-prefix-tried-2 c = search needs
+array-borrow-prefix-pool : tie.Need-array-borrow-prefix-pool
+array-borrow-prefix-pool c =
+    let s = c .before .before .before .before .before .before in
+    omega (arith, entries-fit (s .args .row .now) (s .pre .1))
 
 slice-aggregate-tried-2 : tie.Need-slice-aggregate-tried-2
 slice-aggregate-tried-2 c =
-    let s = c .before .before .before .before .before .before in
-    sym (length-take-le (s .args .case .entries) (s .args .pool .now) (s .pre .1 .1))
-
-slice-relend-prefix-tried-3 : tie.Need-slice-relend-prefix-tried-3
-slice-relend-prefix-tried-3 c = search needs
-
-slice-aggregate-tried-3 : tie.Need-slice-aggregate-tried-3
-slice-aggregate-tried-3 c =
     let s = c .before .before .before .before .before .before .before in
-    sym (length-take-le (s .args .case .room) (s .args .work .now) (s .pre .1 .2))
+    sym (length-take-le (getD (s .args .row .now) 1 0) (c .before .before .before .before .pool-room .result) (omega (arith, entries-fit (s .args .row .now) (s .pre .1))))
 
 tried-requires : tie.Need-tried-requires
 tried-requires c κs = search needs
-
-same-length : tie.Need-same-length
-same-length c = search needs
-
-same-length-2 : tie.Need-same-length-2
-same-length-2 c = search needs
-
-same-length-3 : tie.Need-same-length-3
-same-length-3 c = search needs
 
 returns : tie.Need-returns
 returns c = search needs
@@ -48,14 +50,13 @@ pub in-room-spec : {M : Type 1} → statement M
 in-room-spec =
     tie.close
     (tie.spec
-    slice-relend-prefix-tried
+    node-room-requires
+    pool-room-requires
+    element-copy-out-words
+    element-copy-out-entries
+    array-borrow-prefix-nodes
     slice-aggregate-tried
-    slice-relend-prefix-tried-2
+    array-borrow-prefix-pool
     slice-aggregate-tried-2
-    slice-relend-prefix-tried-3
-    slice-aggregate-tried-3
     tried-requires
-    same-length
-    same-length-2
-    same-length-3
     returns)
