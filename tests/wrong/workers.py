@@ -36,7 +36,7 @@ class Run:
         self.crates = queue.Queue()
         for crate in sorted(self.by_crate, key=lambda name: -len(self.by_crate[name])):
             self.crates.put(crate)
-        self.lock, self.done, self.bad, self.faults = threading.Lock(), 0, [], []
+        self.lock, self.done, self.refused, self.faults = threading.Lock(), 0, set(), []
 
     def work(self):
         scratch = Scratch()
@@ -45,8 +45,8 @@ class Run:
                 self.try_crate(scratch, self.crates.get_nowait())
         except queue.Empty:
             return
-        except Unproved as unproved:
-            self.faults.append(unproved)
+        except Exception as fault:  # told by the main thread: what was not tried must not count as refused
+            self.faults.append(fault)
         finally:
             scratch.remove()
 
@@ -60,8 +60,8 @@ class Run:
     def tell(self, wrong, result):
         with self.lock:
             self.done += 1
-            if result.outcome != REFUSED:
-                self.bad.append(wrong)
+            if result.outcome == REFUSED:
+                self.refused.add(wrong)
             said = f"at {result.place}: {result.fact}" if result.outcome == REFUSED else result.fact
             beside = f", {result.beside} in one check" if result.beside > 1 else ""
             print(f"{self.done}/{self.total} {wrong.crate}/{wrong.name}: {result.outcome} {said} "
@@ -72,15 +72,16 @@ def try_all(left, results, jobs, together):
     """Tries them, says what came of each and how many were refused; gives how many were not."""
     prove({wrong.crate for wrong in left})
     run = Run(left, results, together)
-    threads = [threading.Thread(target=run.work) for _ in range(jobs)]
+    threads = [threading.Thread(target=run.work, daemon=True) for _ in range(jobs)]
     for thread in threads:
         thread.start()
     for thread in threads:
         thread.join()
     if run.faults:
         raise run.faults[0]
-    gate, refused = sum(wrong.gate for wrong in left), len(left) - len(run.bad)
-    print(f"{len(left)} tried ({gate} of them the gate's), {refused} refused by a fact, {len(run.bad)} not")
-    for wrong in run.bad:
+    bad = [wrong for wrong in left if wrong not in run.refused]
+    gate = sum(wrong.gate for wrong in left)
+    print(f"{len(left)} tried ({gate} of them the gate's), {len(run.refused)} refused by a fact, {len(bad)} not")
+    for wrong in bad:
         print(f"not refused by a fact: {wrong.crate}/{wrong.name}")
-    return len(run.bad)
+    return len(bad)
