@@ -8,7 +8,6 @@ HEADERS = os.path.join(ROOT, "include")
 LIBRARY = os.path.join(ROOT, "target", "staticlib", "libpanel_c.a")
 BUILT = os.path.join(ROOT, "target", "bench")
 ORACLE = os.path.join(ROOT, "target", "oracle", "release", "oracle")
-REPEAT_CALL = os.path.join(ROOT, "target", "bin", "repeat_call")
 
 # behind this folder, so that no module there hides one of ours
 sys.path.append(os.path.join(ROOT, "vectors"))
