@@ -1,6 +1,7 @@
-"""Says how long each crate took in the gate.
+"""Says how long each crate took in the gate, and where its check's time went.
 
-usage: .ci/run | tee LOG; python3 tests/gate_times.py LOG [WALL]      WALL: how long the gate took, as in "16 min 40 s"
+usage: .ci/run | tee LOG; python3 tests/gate_times.py LOG WALL [CHECKS]
+       WALL: how long the gate took, as in "16 min 40 s"; CHECKS: what tests/check_times.py --all wrote of every crate
 
 Writes docs/GATE.md from what the gate wrote: for each crate, in the order of crates.txt, its functions, the modules of
 proved libraries that its check read, the seconds that its proof took, and the seconds of the edits that must fail. Several
@@ -17,10 +18,32 @@ EDIT = re.compile(r"^rt: must-fail (\w+)/\w+: refused, as it must be \(first at 
 FUNCTIONS = re.compile(r"^logic=proved functions=(\d+) ")
 MODULES = re.compile(r"^library \w+: modules loaded=(\d+) ")
 END = re.compile(r"^(\d+) passed, 0 failed$")
+# what tests/check_times.py writes: a line for a crate, and one for each of its functions
+CHECKED = re.compile(r"^(\w+): ([\d.]+) s: (.*)$")
+FUNCTION = re.compile(r"^  (\S+) +([\d.]+) +([\d.]+)$")
 # so many of the slowest are named
 SLOWEST = 8
 
 Proof = namedtuple("Proof", "seconds functions modules")
+Function = namedtuple("Function", "name walk proof")
+
+WHY = """\
+## Where a check's time goes
+
+By `tests/check_times.py`, each crate checked by itself, two at a time: {whole:.0f} s, of which {walk:.0f} s is the kit's walk
+of the functions' code, {each:.2f} s for each of {functions} functions; {reading:.0f} s starting and reading the libraries below;
+{proof:.0f} s the proofs of the functions; {specs:.0f} s definitions, laws and what several proofs share. So a crate is slow by
+its code and not by its proofs: by how many functions it has, and by those that lend several slices to several calls. The
+slowest functions, with their proofs: {slowest}.
+
+- `replay_canonicalise`, `compare`, `replay_evaluate` and `replay_compare` have the most code over several lent slices.
+  Splitting the slowest function of `replay_evaluate` in two, and then in three, was tried: the crate took 33.5 s before,
+  33.8 and 34.2 s after. It was left as it is.
+- `replay_tables` made its room, half a million zeros, by itself, and their length alone took 4.1 s to prove. It takes the
+  room that the other replays share.
+- A check that reads many libraries reads for five to seven seconds (programs, replays, the C interface), one over
+  `meaning` alone for one. Larger crates would read less in all, but an edit that must fail costs its whole crate.
+"""
 
 
 def crates():
@@ -50,45 +73,84 @@ def read(log):
     return proofs, edits, passed
 
 
-def row(name, proofs, edits):
+def read_checks(lines):
+    """Of each crate the seconds of each part of its check, and every function."""
+    checks, functions, crate = {}, [], None
+    for line in lines:
+        checked, function = CHECKED.match(line), FUNCTION.match(line)
+        if checked:
+            crate = checked[1]
+            parts = (part.rsplit(" ", 1) for part in checked[3].split(", "))
+            checks[crate] = {part: float(seconds) for part, seconds in parts}
+        if function:
+            functions.append(Function(f"{crate}::{function[1].replace('.', '::')}", float(function[2]), float(function[3])))
+    return checks, functions
+
+
+def row(name, proofs, edits, checks):
     proof, tried = proofs[name], edits.get(name, [])
-    return f"| `{name}` | {proof.functions} | {proof.modules:,} | {proof.seconds} | {len(tried)} | {sum(tried)} |"
+    cells = [f"`{name}`", str(proof.functions), f"{proof.modules:,}", str(proof.seconds), str(len(tried)), str(sum(tried))]
+    if checks:
+        parts = checks[name]
+        cells += [f"{seconds:.1f}" for seconds in (sum(parts.values()), parts["walk"], parts["proof"],
+                                                   parts["specs"] + parts["shared"], parts["reading"])]
+    return f"| {' | '.join(cells)} |"
 
 
-def page(proofs, edits, passed, wall):
+def why(proofs, checks, functions):
+    total = {part: sum(parts[part] for parts in checks.values()) for part in next(iter(checks.values()))}
+    count = sum(proof.functions for proof in proofs.values())
+    slowest = sorted(functions, key=lambda function: -function.walk - function.proof)[:SLOWEST]
+    return WHY.format(
+        whole=sum(total.values()), walk=total["walk"], each=total["walk"] / count, functions=count,
+        reading=total["reading"], proof=total["proof"], specs=total["specs"] + total["shared"],
+        slowest=", ".join(f"`{function.name}` {function.walk + function.proof:.1f} s" for function in slowest))
+
+
+def page(proofs, edits, passed, wall, checks, functions):
     all_edits = [seconds for tried in edits.values() for seconds in tried]
     slowest = sorted(proofs, key=lambda name: -proofs[name].seconds)[:SLOWEST]
+    heads = ["Crate", "Functions", "Modules", "Proof, s", "Edits", "Edits, s"]
+    heads += ["By itself, s", "walk", "proofs", "specs", "reading"] if checks else []
     lines = [
         "# The gate, crate by crate",
         "",
         "Made by `tests/gate_times.py` from what `.ci/run` wrote on a clean checkout, on two cores.",
         "",
-        f"{passed} passed, 0 failed{', in ' + wall if wall else ''}. {len(proofs)} crates were proved in "
+        f"{passed} passed, 0 failed, in {wall}. {len(proofs)} crates were proved in "
         f"{sum(proof.seconds for proof in proofs.values())} s and {len(all_edits)} edits refused in {sum(all_edits)} s, "
         "several at a time.",
         "",
         "The slowest: " + ", ".join(f"`{name}` {proofs[name].seconds} s" for name in slowest) + ".",
         "",
-        "Modules are those of the proved libraries below a crate that its check read. Why a crate is slow was not looked into;",
-        "programs, replays and the C interface read the most modules, and most of the slowest are among them.",
+        *([why(proofs, checks, functions)] if checks else []),
+        "## Each crate",
         "",
-        "| Crate | Functions | Modules | Proof, s | Edits | Edits, s |",
-        "|---|---|---|---|---|---|",
-        *[row(name, proofs, edits) for name in crates()],
+        "Modules are those of the proved libraries below a crate that its check read." + (
+            " The last five columns are of its check by itself." if checks else ""),
+        "",
+        f"| {' | '.join(heads)} |",
+        "|---" * len(heads) + "|",
+        *[row(name, proofs, edits, checks) for name in crates()],
     ]
     return "\n".join(lines) + "\n"
 
 
+def lines_of(path):
+    with open(path, encoding="utf-8") as text:
+        return text.read().split("\n")
+
+
 def main():
-    if len(sys.argv) not in (2, 3):
+    if len(sys.argv) not in (3, 4):
         sys.exit(__doc__)
-    with open(sys.argv[1], encoding="utf-8") as log:
-        proofs, edits, passed = read(line.rstrip("\n") for line in log)
-    missing = [name for name in crates() if name not in proofs]
+    proofs, edits, passed = read(lines_of(sys.argv[1]))
+    checks, functions = read_checks(lines_of(sys.argv[3])) if len(sys.argv) == 4 else ({}, [])
+    missing = [name for name in crates() if name not in proofs or (checks and name not in checks)]
     if passed is None or missing:
-        sys.exit(f"no green gate: {', '.join(missing) or 'its last line is not there'}")
+        sys.exit(f"no green gate, or not all of it: {', '.join(missing) or 'its last line is not there'}")
     with open(os.path.join(ROOT, "docs", "GATE.md"), "w", encoding="utf-8") as out:
-        out.write(page(proofs, edits, passed, sys.argv[2] if len(sys.argv) == 3 else ""))
+        out.write(page(proofs, edits, passed, sys.argv[2], checks, functions))
 
 
 if __name__ == "__main__":

@@ -13,6 +13,7 @@ use columns::NUMBER;
 use columns::get;
 use columns::put;
 use lists::children::children_of;
+use meaning::limits::MOST_OPERANDS;
 use nodes::datum_of;
 use nodes::kind_of;
 use nodes::node_count;
@@ -30,9 +31,6 @@ ghost use Rattle.rows.specs.Rows.{Prepared};
 ghost use Rattle.form_rows.specs.Forms.{Formed};
 ghost use Rattle.forms.specs.Turns.{Turn, Done, Beside};
 ghost use Rattle.forms.specs.Operands.{folds};
-
-// "a Lut .. with more than seven [children]", the first its Program, is refused
-const MOST_OPERANDS: usize = 6;
 
 // Inner: every node's normal form, and 0 in column NUMBER of every node.
 pub fn write_forms(nodes: &[u32], pool: &[u32], work: &mut [u64])

@@ -22,3 +22,6 @@ pub const WIDEST_BUS: usize = 64;
 
 // "over 30 variables below the first root"
 pub const MOST_INPUTS: usize = 30;
+
+// "a Lut .. with more than seven [children]", the first its Program; "k at most 6"
+pub const MOST_OPERANDS: usize = 6;

@@ -7,6 +7,8 @@ use answers::agrees;
 use case_rows::next_case_row;
 use decimals::Row;
 use libc::STDOUT_FILENO;
+use list_room::TEXT_ROOM;
+use list_room::text_room;
 use replay_report::Tally;
 use replay_report::Turn;
 use replay_report::counted;
@@ -16,7 +18,6 @@ use replay_report::started;
 use replay_report::too_long;
 use rows::ROW_WORDS;
 use rows::largest;
-ghost use mathlib.Core.Path.{_≡_};
 ghost use Prim.Native.Nat.{_+_, _≤_};
 ghost use lib.ListN.{length};
 ghost use Rattle.replay_report.specs.Turns.{GetsOn};
@@ -59,18 +60,12 @@ fn replay(text: &[u8]) -> Tally {
     tally
 }
 
-// The `ensures` gives only the length, which lending the array needs.
-fn space() -> [u8; 524288]
-    ensures { λ r. ⌜ 524288 ≡ length r ⌝ }
-{
-    [0; 524288]
-}
-
-// An input that fills the whole space may go on behind it, and is not replayed in part.
+// An input that fills the whole room may go on behind it, and is not replayed in part. The stack must hold the text, two
+// megabytes.
 fn main() {
-    let mut text = space();
+    let mut text = text_room();
     let n = io::read_full(0, &mut text);
-    if n == 524288 {
+    if n == TEXT_ROOM {
         too_long(n);
         return;
     }

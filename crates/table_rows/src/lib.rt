@@ -7,6 +7,7 @@ use bits::join;
 use bits::low_bits;
 use bits::power_of_two;
 use bits::word_fits;
+use meaning::limits::MOST_OPERANDS;
 ghost use mathlib.Core.Path.{_≡_};
 ghost use mathlib.Core.Bool.{cond};
 ghost use Prim.Native.Nat.{_+_, _^_, _<_, _≤_};
@@ -18,7 +19,7 @@ ghost use Rattle.meaning.specs.Rules.Tables as meant;
 pub fn table_fits(p: u64, k: u64) -> bool
     ensures { λ r. ⌜ r ≡ meant.tableFits p k ⌝ }
 {
-    if k > 6 {
+    if k > MOST_OPERANDS as u64 {
         return false;
     }
     word_fits(p, power_of_two(k))

@@ -2,6 +2,7 @@
 // in which the bytes are read (document 01, "Truth-table routines").
 use bits::bit_at;
 use meaning::LutBit;
+use meaning::limits::MOST_OPERANDS;
 ghost use mathlib.Core.Path.{_≡_};
 ghost use mathlib.Core.Bool.{true};
 ghost use Prim.Native.Nat.{_<_};
@@ -25,7 +26,7 @@ fn are_bits(inputs: &[u8]) -> bool
 fn inputs_fit(inputs: &[u8]) -> bool
     ensures { λ r. ⌜ r ≡ lutInputs (now (inputs .entry)) ⌝ }
 {
-    if inputs.len() > 6 {
+    if inputs.len() > MOST_OPERANDS {
         return false;
     }
     are_bits(inputs)
