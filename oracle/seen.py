@@ -115,6 +115,25 @@ EVALUATE = [
     ("(LUT 1 v0 v1 v1 v1 v1 v1 v1)", "1 0", "0 1 1", PANIC),
     ("(AND (LUT v0) false)", "0", PANIC),
     (bus(["true"] * 65), "", "0 65 36893488147419103231"),
+    # the smallest of their kind (oracle/smallest)
+    ("(LUT 2)", "", "0 1 0"),
+    ("(LUT)", "", PANIC),
+    ("(ARG false)", "", "4 0 0"),
+    ("(BUS (BUS false))", "", "0 1 0"),
+    ("(AND 0 0)", "", PANIC),
+    ("(BUS 0)", "", PANIC),
+    ("(XOR DC 0)", "", "2 0 0"),
+    ("(REG 0 0 0 0)", "", "3 0 0"),
+    ("(LUT 0 DC 0)", "", "2 0 0"),
+    ("(NOT 0)", "", PANIC),
+    ("(CYCLE 0)", "", PANIC),
+    ("(MUX 0 0 0)", "", PANIC),
+    ("(LUT 0 0)", "", PANIC),
+    ("(MUX (BUS) (BUS) (BUS))", "", "0 0 0"),
+    ("(AND DC (BUS))", "", "0 0 0"),
+    ("(NOR DC (BUS))", "", "0 0 0"),
+    ("(XOR DC (BUS))", "", "2 0 0"),
+    ("(AND false (BUS))", "", STAND_IN),
 ]
 
 COMPARE = [
@@ -146,6 +165,16 @@ COMPARE = [
     ("(LUT v0)", "(AND v0 v1)", PANIC),
     ("(LUT 0 v0 v0 v0 v0 v0 v0 v0)", "false", EQUIV, PANIC),
     (bus(variables(1) * 65), f"(NOT (NOT {bus(variables(1) * 65)}))", EQUIV),
+    # the smallest of their kind (oracle/smallest)
+    ("0", "0", EQUIV),
+    ("false", "0", PANIC),
+    ("false", "(LUT)", PANIC),
+    ("(LUT)", "(LUT)", EQUIV),
+    ("(LUT 2)", "false", EQUIV),
+    ("(LUT 2)", "true", "1 0 0 1 0 0 1 1"),
+    ("(ARG false)", "false", "2 0 4 0 0 0 1 0"),
+    ("(MUX (BUS) (BUS) (BUS))", "false", "1 0 0 0 0 0 1 0"),
+    ("(MUX (BUS) (BUS) (BUS))", "DC", "2 0 0 0 0 2 0 0"),
 ]
 
 SEPARATE = [
@@ -186,6 +215,24 @@ CANONICALISE = [
     ("(LUT 16 v0 v1)", PANIC),
     ("(LUT 0 v0 v0 v0 v0 v0 v0 v0)", PANIC),
     ("5", "5"),
+    # the smallest of their kind (oracle/smallest)
+    ("0", "0"),
+    ("(NOT 0)", "(LUT 1 0)"),
+    ("(CYCLE 0)", "(CYCLE 0)"),
+    ("(REG 0 0 0 0)", "(REG 0 0 0 0)"),
+    ("(MUX 0 0 0)", "(LUT 202 0 0 0)"),
+    ("(LUT 0 0)", "false", PANIC),
+    ("(AND false (BUS))", "false", PANIC),
+    ("(XOR false (BUS))", "(BUS)", PANIC),
+    ("(BUS (NOT (BUS)))", "(BUS (LUT 1 (BUS)))"),
+    ("(AND 0 0)", "(LUT 8 0 0)"),
+    ("(ARG false)", "(ARG false)", PANIC),
+    ("(BUS 0)", "(BUS 0)", PANIC),
+    ("(LUT)", PANIC),
+    ("(LUT 4 4)", "false", PANIC),
+    ("(NOT (BUS))", "(LUT 1 (BUS))"),
+    ("(AND (BUS) (BUS))", "(LUT 8 (BUS) (BUS))"),
+    ("(MUX false (BUS) (BUS))", "(BUS)", PANIC),
 ]
 
 # a term, and the words of the original's list where these are not our list of that term

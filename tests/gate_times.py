@@ -10,6 +10,7 @@ run at a time, so the seconds of all add up to more than the gate took. A gate t
 import os
 import re
 import sys
+import textwrap
 from collections import namedtuple
 
 ROOT = os.path.join(os.path.dirname(os.path.abspath(__file__)), "..")
@@ -27,24 +28,8 @@ SLOWEST = 8
 Proof = namedtuple("Proof", "seconds functions modules")
 Function = namedtuple("Function", "name walk proof")
 
-WHY = """\
-## Where a check's time goes
-
-By `tests/check_times.py`, each crate checked by itself, two at a time: {whole:.0f} s, of which {walk:.0f} s is the kit's walk
-of the functions' code, {each:.2f} s for each of {functions} functions; {reading:.0f} s starting and reading the libraries below;
-{proof:.0f} s the proofs of the functions; {specs:.0f} s definitions, laws and what several proofs share. So a crate is slow by
-its code and not by its proofs: by how many functions it has, and by those that lend several slices to several calls. The
-slowest functions, with their proofs: {slowest}.
-
-- `replay_canonicalise`, `compare`, `replay_evaluate` and `replay_compare` have the most code over several lent slices.
-  Splitting the slowest function of `replay_evaluate` in two, and then in three, was tried: the crate took 33.5 s before,
-  33.8 and 34.2 s after. It was left as it is.
-- `replay_tables` made its room, half a million zeros, by itself, and their length alone took 4.1 s to prove. It takes the
-  room that the other replays share.
-- A check that reads many libraries reads for five to seven seconds (programs, replays, the C interface), one over
-  `meaning` alone for one. Larger crates would read less in all, but an edit that must fail costs its whole crate.
-"""
-
+# how wide a line of the page's text is
+WIDE = 120
 
 def crates():
     with open(os.path.join(ROOT, "crates.txt"), encoding="utf-8") as listed:
@@ -97,14 +82,26 @@ def row(name, proofs, edits, checks):
     return f"| {' | '.join(cells)} |"
 
 
+def paragraph(*sentences):
+    return textwrap.fill(" ".join(sentences), WIDE, break_long_words=False, break_on_hyphens=False) + "\n"
+
+
 def why(proofs, checks, functions):
     total = {part: sum(parts[part] for parts in checks.values()) for part in next(iter(checks.values()))}
     count = sum(proof.functions for proof in proofs.values())
     slowest = sorted(functions, key=lambda function: -function.walk - function.proof)[:SLOWEST]
-    return WHY.format(
-        whole=sum(total.values()), walk=total["walk"], each=total["walk"] / count, functions=count,
-        reading=total["reading"], proof=total["proof"], specs=total["specs"] + total["shared"],
-        slowest=", ".join(f"`{function.name}` {function.walk + function.proof:.1f} s" for function in slowest))
+    return [
+        "## Where a check's time goes",
+        "",
+        paragraph(
+            f"By `tests/check_times.py`, each crate checked by itself, two at a time: {sum(total.values()):.0f} s.",
+            f"Of these {total['walk']:.0f} s are the kit's walk of the functions' code, {total['walk'] / count:.2f} s for each of",
+            f"{count} functions; {total['reading']:.0f} s starting and reading the libraries below; {total['proof']:.0f} s the",
+            f"proofs of the functions; {total['specs'] + total['shared']:.0f} s definitions, laws and what several proofs share.",
+            "So a crate is slow by its code and not by its proofs (docs/DECISIONS.md, \"What makes the gate long\")."),
+        paragraph("The slowest functions, with their proofs:", ", ".join(
+            f"`{function.name}` {function.walk + function.proof:.1f} s" for function in slowest) + "."),
+    ]
 
 
 def page(proofs, edits, passed, wall, checks, functions):
@@ -117,18 +114,16 @@ def page(proofs, edits, passed, wall, checks, functions):
         "",
         "Made by `tests/gate_times.py` from what `.ci/run` wrote on a clean checkout, on two cores.",
         "",
-        f"{passed} passed, 0 failed, in {wall}. {len(proofs)} crates were proved in "
-        f"{sum(proof.seconds for proof in proofs.values())} s and {len(all_edits)} edits refused in {sum(all_edits)} s, "
-        "several at a time.",
-        "",
-        "The slowest: " + ", ".join(f"`{name}` {proofs[name].seconds} s" for name in slowest) + ".",
-        "",
-        *([why(proofs, checks, functions)] if checks else []),
+        paragraph(
+            f"{passed} passed, 0 failed, in {wall}. {len(proofs)} crates were proved in",
+            f"{sum(proof.seconds for proof in proofs.values())} s and {len(all_edits)} edits refused in {sum(all_edits)} s,",
+            "several at a time."),
+        paragraph("The slowest:", ", ".join(f"`{name}` {proofs[name].seconds} s" for name in slowest) + "."),
+        *(why(proofs, checks, functions) if checks else []),
         "## Each crate",
         "",
-        "Modules are those of the proved libraries below a crate that its check read." + (
-            " The last five columns are of its check by itself." if checks else ""),
-        "",
+        paragraph("Modules are those of the proved libraries below a crate that its check read.",
+                  "The last five columns are of its check by itself." if checks else ""),
         f"| {' | '.join(heads)} |",
         "|---" * len(heads) + "|",
         *[row(name, proofs, edits, checks) for name in crates()],
