@@ -1,6 +1,6 @@
 """Says where a crate's check spends its time, function by function.
 
-usage: python3 tests/check_times.py [--all] NAME..
+usage: python3 tests/check_times.py [--all] CRATE..
 
 Checks each crate from nothing by `rt dev`, over an empty target/inc/NAME, and reads when each module was stored there.
 What rests on no module of the crate's own (start, the libraries' modules, the end) is "reading". Of a function `walk` is
@@ -76,10 +76,6 @@ def check(name):
     return began, ended
 
 
-def line(label, values):
-    return f"  {label:<34}" + "".join(f"{value:8.1f}" for value in values)
-
-
 def report(name, every):
     seconds = parts(name, *check(name))
     whole = {part: sum(took for (_, own), took in seconds.items() if own == part)
@@ -89,7 +85,7 @@ def report(name, every):
     rows = sorted(((seconds.get((owner, "walk"), 0), seconds.get((owner, "proof"), 0), owner) for owner in owners),
                   key=lambda row: -row[0] - row[1])
     for walk, proof, owner in rows if every else rows[:SLOWEST]:
-        print(line(owner, (walk, proof)))
+        print(f"  {owner:<34}{walk:8.1f}{proof:8.1f}")
     sys.stdout.flush()
 
 
@@ -98,6 +94,7 @@ def main():
     names = [word for word in sys.argv[1:] if word != "--all"]
     if not names or any(name.startswith("-") for name in names):
         sys.exit(__doc__)
+    print(f"{'':36}{'walk':>8}{'proof':>8}")
     for name in names:
         report(name, every)
 
