@@ -170,11 +170,12 @@ COMPARE = [
     ("false", "0", PANIC),
     ("false", "(LUT)", PANIC),
     ("(LUT)", "(LUT)", EQUIV),
-    ("(LUT 2)", "false", EQUIV),
-    ("(LUT 2)", "true", "1 0 0 1 0 0 1 1"),
-    ("(ARG false)", "false", "2 0 4 0 0 0 1 0"),
-    ("(MUX (BUS) (BUS) (BUS))", "false", "1 0 0 0 0 0 1 0"),
-    ("(MUX (BUS) (BUS) (BUS))", "DC", "2 0 0 0 0 2 0 0"),
+    ("false", "(LUT 2)", EQUIV),
+    ("true", "(LUT 2)", "1 0 0 1 1 0 1 0"),
+    ("false", "(ARG false)", "2 0 0 1 0 4 0 0"),
+    ("false", "(MUX (BUS) (BUS) (BUS))", "1 0 0 1 0 0 0 0"),
+    ("false", "(REG 0 0 0 0)", "2 0 0 1 0 3 0 0"),
+    ("(NOR false (BUS))", "false", STAND_IN),
 ]
 
 SEPARATE = [
@@ -223,6 +224,7 @@ CANONICALISE = [
     ("(MUX 0 0 0)", "(LUT 202 0 0 0)"),
     ("(LUT 0 0)", "false", PANIC),
     ("(AND false (BUS))", "false", PANIC),
+    ("(NOR false (BUS))", "(LUT 1 (BUS))", PANIC),
     ("(XOR false (BUS))", "(BUS)", PANIC),
     ("(BUS (NOT (BUS)))", "(BUS (LUT 1 (BUS)))"),
     ("(AND 0 0)", "(LUT 8 0 0)"),

@@ -31,6 +31,7 @@ Function = namedtuple("Function", "name walk proof")
 # how wide a line of the page's text is
 WIDE = 120
 
+
 def crates():
     with open(os.path.join(ROOT, "crates.txt"), encoding="utf-8") as listed:
         return re.findall(r"^(\w+):", listed.read(), re.M)
