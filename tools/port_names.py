@@ -59,7 +59,7 @@ def files(root):
 
 
 def is_walk(path):
-    return os.path.basename(path) in ("Proof.antt", "Answers.antt", "Invariants.antt")
+    return "/proofs/" in path and os.path.basename(path) in ("Proof.antt", "Answers.antt", "Invariants.antt")
 
 
 def own_path(path, own):

@@ -1,7 +1,7 @@
 // The operators on answers (document 01, "Answers of a node"; 000, `eval_rec`): one small function for each. An
 // answer is a width with a value, or a failure; "an operand's answer is taken apart once: a value goes on, anything
 // else leaves with its failure". The plain meaning of each is the definition of the same name in meaning's
-// Rules/Answers (`andOf`, `norOf`, ..), and its contract is an equation with it. Both evaluators, the plain one and
+// Rules/Answers (`and_of`, `nor_of`, ..), and its contract is an equation with it. Both evaluators, the plain one and
 // the pass, call these and nothing else for a node's own answer; a Lut's row is gathered in their loops, so that a
 // failing operand ends it at once. That every operator keeps answers within their width is in specs/Widths; how a
 // loop over operands goes, in specs/Folds.

@@ -11,21 +11,21 @@ use Rattle.meaning.specs.Rules.Kinds.{Kind, Const, Program, DC, Var, Nor, Mux, A
 use Rattle.meaning.specs.Rules.Trees.{Tree, Forest, node, none, ◌◂◌}
 
 -- "a failure: 1 undriven, 2 DC, 3 register, 4 ARG"
-abbrev pub failureNumber : Failure → ℕ
-failureNumber Undriven = 1
-failureNumber DontCare = 2
-failureNumber Register = 3
-failureNumber Argument = 4
+abbrev pub failure_number : Failure → ℕ
+failure_number Undriven = 1
+failure_number DontCare = 2
+failure_number Register = 3
+failure_number Argument = 4
 
 -- the state, the width and the value of an answer where answers are words: 0 with the width and the value, or the
 -- failure's number with zeros
 abbrev pub state_of : Answer → ℕ
 state_of (Value w v) = 0
-state_of (Failed f) = failureNumber f
+state_of (Failed f) = failure_number f
 
-abbrev pub answerWidth : Answer → ℕ
-answerWidth (Value w v) = w
-answerWidth (Failed f) = 0
+abbrev pub answer_width : Answer → ℕ
+answer_width (Value w v) = w
+answer_width (Failed f) = 0
 
 abbrev pub value_of : Answer → ℕ
 value_of (Value w v) = v
@@ -39,46 +39,46 @@ blank = Value 0 0
 abbrev pub Assignment : Type 0
 Assignment = ℕ → ℕ
 
-abbrev pub undrivenByte : ℕ
-undrivenByte = 2
+abbrev pub undriven_byte : ℕ
+undriven_byte = 2
 
 abbrev pub driven : ℕ → Answer
-driven b = cond (ltb b undrivenByte) (Value 1 b) (Failed Undriven)
+driven b = cond (ltb b undriven_byte) (Value 1 b) (Failed Undriven)
 
 -- ---- the operators
 
 -- "One failure: if the other is all zeros, zeros; else that failure. Two: the first."
-abbrev pub zerosOr : ℕ → ℕ → Failure → Answer
-zerosOr w x f = cond (eqb x 0) (Value w 0) (Failed f)
+abbrev pub zeros_or : ℕ → ℕ → Failure → Answer
+zeros_or w x f = cond (eqb x 0) (Value w 0) (Failed f)
 
-abbrev pub andOf : Answer → Answer → Answer
-andOf (Value w x) (Value u y) = Value w (bit_and x y)
-andOf (Value w x) (Failed f) = zerosOr w x f
-andOf (Failed f) (Value w y) = zerosOr w y f
-andOf (Failed f) (Failed g) = Failed f
+abbrev pub and_of : Answer → Answer → Answer
+and_of (Value w x) (Value u y) = Value w (bit_and x y)
+and_of (Value w x) (Failed f) = zeros_or w x f
+and_of (Failed f) (Value w y) = zeros_or w y f
+and_of (Failed f) (Failed g) = Failed f
 
 -- "Nor is the complement of or, and all ones absorb to zeros"
-abbrev pub norOf : Answer → Answer → Answer
-norOf (Value w x) (Value u y) = Value w (ones w - bit_or x y)
-norOf (Value w x) (Failed f) = zerosOr w (ones w - x) f
-norOf (Failed f) (Value w y) = zerosOr w (ones w - y) f
-norOf (Failed f) (Failed g) = Failed f
+abbrev pub nor_of : Answer → Answer → Answer
+nor_of (Value w x) (Value u y) = Value w (ones w - bit_or x y)
+nor_of (Value w x) (Failed f) = zeros_or w (ones w - x) f
+nor_of (Failed f) (Value w y) = zeros_or w (ones w - y) f
+nor_of (Failed f) (Failed g) = Failed f
 
 -- "Xor, Not, Lut: the first failing operand in order"
-abbrev pub xorOf : Answer → Answer → Answer
-xorOf (Value w x) (Value u y) = Value w (bit_xor x y)
-xorOf (Value w x) (Failed g) = Failed g
-xorOf (Failed f) (Value u y) = Failed f
-xorOf (Failed f) (Failed g) = Failed f
+abbrev pub xor_of : Answer → Answer → Answer
+xor_of (Value w x) (Value u y) = Value w (bit_xor x y)
+xor_of (Value w x) (Failed g) = Failed g
+xor_of (Failed f) (Value u y) = Failed f
+xor_of (Failed f) (Failed g) = Failed f
 
-abbrev pub notOf : Answer → Answer
-notOf (Value w x) = Value w (ones w - x)
-notOf (Failed f) = Failed f
+abbrev pub not_of : Answer → Answer
+not_of (Value w x) = Value w (ones w - x)
+not_of (Failed f) = Failed f
 
 -- "Mux: the selector's failure; else s = 1 answers as a, s = 0 as b"
-abbrev pub muxOf : Answer → Answer → Answer → Answer
-muxOf (Value w s) a b = cond (eqb s 0) b a
-muxOf (Failed f) a b = Failed f
+abbrev pub mux_of : Answer → Answer → Answer → Answer
+mux_of (Value w s) a b = cond (eqb s 0) b a
+mux_of (Failed f) a b = Failed f
 
 -- bits in order, the first the most significant; the first failing operand leaves
 abbrev pub operands : Answer → List Answer → Answer
@@ -87,20 +87,20 @@ operands (Failed f) (x ∷ xs) = Failed f
 operands (Value w r) (Failed g ∷ xs) = Failed g
 operands (Value w r) (Value u x ∷ xs) = operands (Value (suc w) (r * 2 + x)) xs
 
-abbrev pub rowBit : ℕ → Answer → Answer
-rowBit p (Value w r) = Value 1 (bit_at p r)
-rowBit p (Failed f) = Failed f
+abbrev pub row_bit : ℕ → Answer → Answer
+row_bit p (Value w r) = Value 1 (bit_at p r)
+row_bit p (Failed f) = Failed f
 
 -- "Lut: the first operand is the most significant bit of the row number"
-abbrev pub lutOf : ℕ → List Answer → Answer
-lutOf p xs = rowBit p (operands blank xs)
+abbrev pub lut_of : ℕ → List Answer → Answer
+lut_of p xs = row_bit p (operands blank xs)
 
 -- "Bus: the last failing member; otherwise its last member is bit 0"
-abbrev pub busOf : Answer → List Answer → Answer
-busOf r [] = r
-busOf r (Failed g ∷ xs) = busOf (Failed g) xs
-busOf (Failed f) (Value u x ∷ xs) = busOf (Failed f) xs
-busOf (Value w r) (Value u x ∷ xs) = busOf (Value (suc w) (r * 2 + x)) xs
+abbrev pub bus_of : Answer → List Answer → Answer
+bus_of r [] = r
+bus_of r (Failed g ∷ xs) = bus_of (Failed g) xs
+bus_of (Failed f) (Value u x ∷ xs) = bus_of (Failed f) xs
+bus_of (Value w r) (Value u x ∷ xs) = bus_of (Value (suc w) (r * 2 + x)) xs
 
 abbrev pub nth : List Answer → ℕ → Answer
 nth xs i = get_or xs i blank
@@ -112,13 +112,13 @@ step α Const d xs = Value 1 d
 step α Program d xs = Value widest_bus d
 step α DC d xs = Failed DontCare
 step α Var d xs = driven (α d)
-step α Nor d xs = norOf (nth xs 0) (nth xs 1)
-step α Mux d xs = muxOf (nth xs 0) (nth xs 1) (nth xs 2)
-step α And d xs = andOf (nth xs 0) (nth xs 1)
-step α Xor d xs = xorOf (nth xs 0) (nth xs 1)
-step α Not d xs = notOf (nth xs 0)
-step α Lut d xs = lutOf (value_of (nth xs 0)) (drop 1 xs)
-step α Bus d xs = busOf blank xs
+step α Nor d xs = nor_of (nth xs 0) (nth xs 1)
+step α Mux d xs = mux_of (nth xs 0) (nth xs 1) (nth xs 2)
+step α And d xs = and_of (nth xs 0) (nth xs 1)
+step α Xor d xs = xor_of (nth xs 0) (nth xs 1)
+step α Not d xs = not_of (nth xs 0)
+step α Lut d xs = lut_of (value_of (nth xs 0)) (drop 1 xs)
+step α Bus d xs = bus_of blank xs
 step α Reg d xs = Failed Register
 step α Arg d xs = Failed Argument
 step α Cycle d xs = nth xs 0
