@@ -7,7 +7,7 @@ ghost use Rattle.answer_words.specs.Said.{said};
 use meaning::{Answer, Failure};
 
 // State 0 with the width and the value, or the failure's number with zeros
-#[derive(Drop)]
+#[derive(Clone, Copy)]
 pub struct Words {
     pub state: u64,
     pub width: u64,

@@ -8,7 +8,7 @@ pub use rows::{Row, next_row};
 
 // What stands in a text from an offset on: a number, with the offset of the byte behind it; nothing but blanks; or a
 // byte that no word has there, with its offset.
-#[derive(Drop)]
+#[derive(Clone, Copy)]
 pub enum Word {
     Value { value: u64, next: usize },
     End,

@@ -7,7 +7,7 @@ use super::{Word, next_word};
 
 // As many words as there are places: the offset behind the last; no word at all; or the offset of a byte that no word
 // has there, or of the text's end where it comes too soon.
-#[derive(Drop)]
+#[derive(Clone, Copy)]
 pub enum Row {
     Whole(usize),
     End,

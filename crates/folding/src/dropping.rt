@@ -11,7 +11,7 @@ use form_rows::{CONSTANT, datum_in, kind_in};
 use table_rows::{cofactor, ignores};
 
 // the operand that rule 3 drops, and the program over those left; or that no operand is dropped
-#[derive(Drop)]
+#[derive(Clone, Copy)]
 pub(crate) enum Next {
     Drop { at: usize, program: u64 },
     Stay,

@@ -14,7 +14,7 @@ use dropping::{Next, drop_at, next_rule};
 use form_rows::{CONSTANT, datum_in, kind_in};
 
 // What a Lut is when no rule applies: a constant, an operand, or a Lut over the first `count` of the operands' list.
-#[derive(Drop)]
+#[derive(Clone, Copy)]
 pub enum Folded {
     Constant(u64),
     Operand(u64),

@@ -8,7 +8,7 @@ use libc::{STDERR_FILENO, STDIN_FILENO};
 use list_parts::{Found, ends, find_list};
 
 // So many bytes are the whole text; or there is none, and the message is written.
-#[derive(Drop)]
+#[derive(Clone, Copy)]
 pub enum Text {
     Bytes(usize),
     Nothing,

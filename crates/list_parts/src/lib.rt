@@ -12,7 +12,7 @@ use list_texts::{ListAt, Rest, list_at, rest_from};
 use messages::{write_bad, write_left_over, write_too_many};
 
 // A list at the start of what was lent for it, and the offset behind it; or nothing, and the message is written.
-#[derive(Drop)]
+#[derive(Clone, Copy)]
 pub enum Found {
     List {
         words: usize,

@@ -10,7 +10,7 @@ use list_words::{Entries, Entry, next_entries, next_entry};
 
 // A list, at the start of what was lent for it, and the offset behind it; the offset of what is no word of 32 bits; or
 // the offset behind a count that is above the places lent.
-#[derive(Drop)]
+#[derive(Clone, Copy)]
 pub enum ListAt {
     Whole {
         words: usize,
@@ -22,7 +22,7 @@ pub enum ListAt {
 }
 
 // What stands in a text from an offset on: blanks alone, a word, or what is no word, with its offset.
-#[derive(Drop)]
+#[derive(Clone, Copy)]
 pub enum Rest {
     Blank,
     Words,
@@ -30,7 +30,7 @@ pub enum Rest {
 }
 
 // A count and so many words, with the offset behind the last; else as above.
-#[derive(Drop)]
+#[derive(Clone, Copy)]
 pub(crate) enum Part {
     Whole { count: usize, next: usize },
     Bad(usize),

@@ -7,7 +7,7 @@ use decimals::{Word, next_word};
 // The largest word of a list, 2^32 - 1
 const LARGEST: u64 = 4294967295;
 
-#[derive(Drop)]
+#[derive(Clone, Copy)]
 pub enum Entry {
     Value { value: u32, next: usize },
     Bad(usize),

@@ -10,7 +10,7 @@ ghost use Rattle.list_words.specs.Entries as entries;
 pub use entry::{Entry, next_entry};
 
 // As many words as are owed: the offset behind the last; or the offset of what is no word of 32 bits.
-#[derive(Drop)]
+#[derive(Clone, Copy)]
 pub enum Entries {
     Whole(usize),
     Bad(usize),

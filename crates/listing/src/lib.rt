@@ -26,7 +26,7 @@ use listed::FIRST_NUMBER;
 use nodes::node_count;
 
 // How far the walk is: so many nodes on its path, so many entries
-#[derive(Drop)]
+#[derive(Clone, Copy)]
 struct Progress {
     depth: usize,
     count: usize,

@@ -5,7 +5,7 @@ pub mod limits;
 pub mod numbers;
 
 // ---- "Answers of a node": "a width with a value, or a failure: 1 undriven, 2 DC, 3 register, 4 ARG"
-#[derive(Drop)]
+#[derive(Clone, Copy)]
 pub enum Failure {
     Undriven,
     DontCare,
@@ -13,21 +13,21 @@ pub enum Failure {
     Argument,
 }
 
-#[derive(Drop)]
+#[derive(Clone, Copy)]
 pub enum Answer {
     Value { width: u32, value: u64 },
     Failed(Failure),
 }
 
 // ---- check.rs: the three verdicts, and what `unwrap` and `expect` become
-#[derive(Drop)]
+#[derive(Clone, Copy)]
 pub enum Check {
     Equiv,
     NotEquiv,
     Inconclusive,
 }
 
-#[derive(Drop)]
+#[derive(Clone, Copy)]
 pub enum Decision {
     Yes,
     No,
@@ -35,35 +35,35 @@ pub enum Decision {
 }
 
 // What writing a verdict's name answers: how many bytes, or number 19
-#[derive(Drop)]
+#[derive(Clone, Copy)]
 pub enum Written {
     Bytes(u64),
     TooShort,
 }
 
 // ---- "Comparison and separation"
-#[derive(Drop)]
+#[derive(Clone, Copy)]
 pub enum Judgement {
     Separate,
     Crossing,
 }
 
 // "A refusal gives its number and, for 3 to 6, 8 and 14, the lowest faulty node, else 0"; number 0 is done
-#[derive(Drop)]
+#[derive(Clone, Copy)]
 pub struct Refusal {
     pub number: u32,
     pub node: u32,
 }
 
 // The root's answer; the node by node pairs are written into lent space
-#[derive(Drop)]
+#[derive(Clone, Copy)]
 pub struct Evaluation {
     pub refusal: Refusal,
     pub answer: Answer,
 }
 
 // "The result carries verdict, i and both answers"
-#[derive(Drop)]
+#[derive(Clone, Copy)]
 pub struct Comparison {
     pub refusal: Refusal,
     pub verdict: Check,
@@ -73,7 +73,7 @@ pub struct Comparison {
 }
 
 // "Crossing carries i and the answers at i and at i with its run bits cleared"
-#[derive(Drop)]
+#[derive(Clone, Copy)]
 pub struct Separation {
     pub refusal: Refusal,
     pub judgement: Judgement,
@@ -83,7 +83,7 @@ pub struct Separation {
 }
 
 // ---- "Canonical list": how many words of each output slice the answer takes
-#[derive(Drop)]
+#[derive(Clone, Copy)]
 pub struct Canonical {
     pub refusal: Refusal,
     pub nodes: u32,
@@ -93,21 +93,21 @@ pub struct Canonical {
 // ---- "Truth-table routines": a type for each kind of answer; OutOfRange is number 13
 
 // `eval_lut`, `eval_lut_bv`
-#[derive(Drop)]
+#[derive(Clone, Copy)]
 pub enum LutBit {
     Bit(bool),
     OutOfRange,
 }
 
 // `to_bitvec`
-#[derive(Drop)]
+#[derive(Clone, Copy)]
 pub enum BitVector {
     Bits { width: u64, value: u64 },
     OutOfRange,
 }
 
 // `remove_lsb_var`: the program over one operand less, or the Rust's None
-#[derive(Drop)]
+#[derive(Clone, Copy)]
 pub enum Removed {
     Smaller(u64),
     Nothing,
@@ -115,14 +115,14 @@ pub enum Removed {
 }
 
 // `eval_lut_const_input`, `swap_pos`
-#[derive(Drop)]
+#[derive(Clone, Copy)]
 pub enum TableProgram {
     Program(u64),
     OutOfRange,
 }
 
 // `cofactors_in_msb`
-#[derive(Drop)]
+#[derive(Clone, Copy)]
 pub enum Cofactors {
     Pair { high: u64, low: u64 },
     OutOfRange,

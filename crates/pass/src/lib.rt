@@ -22,7 +22,7 @@ use steps::answer_of;
 const NO_ANSWER: u64 = 5;
 
 // A node's state and value.
-#[derive(Drop)]
+#[derive(Clone, Copy)]
 struct Pair {
     state: u64,
     value: u64,

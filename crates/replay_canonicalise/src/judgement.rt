@@ -10,13 +10,13 @@ use replay_report::{told_refusal, told_work};
 use replay_results::alike;
 
 // How much of a canonical list stands in the text
-#[derive(Drop)]
+#[derive(Clone, Copy)]
 pub(crate) struct Listed {
     pub(crate) words: usize,
     pub(crate) entries: usize,
 }
 
-#[derive(Drop)]
+#[derive(Clone, Copy)]
 pub(crate) struct Expected {
     pub(crate) number: u64,
     pub(crate) node: u64,
@@ -29,7 +29,7 @@ pub(crate) struct Expected {
 
 // What is seen of a call: what it answers, the verdict on the list that it wrote, whether the work space is as
 // expected, and whether both outputs are untouched behind the list
-#[derive(Drop)]
+#[derive(Clone, Copy)]
 pub(crate) struct Seen {
     pub(crate) canonical: Canonical,
     pub(crate) verdict: u64,

@@ -6,7 +6,7 @@ use list_words::{Entry, next_entry};
 
 // As many words as were written, with the offset behind the last and whether all are the same; or the offset of what is
 // no word of 32 bits, which is that of the text's end where it comes too soon.
-#[derive(Drop)]
+#[derive(Clone, Copy)]
 pub(crate) enum Written {
     Read { next: usize, same: bool },
     Bad(usize),

@@ -19,7 +19,7 @@ use meaning::numbers::DONE;
 pub(crate) const ROW_WORDS: usize = 11;
 
 // `pairs` is how many words of output are expected to be written, and stand in the text.
-#[derive(Drop)]
+#[derive(Clone, Copy)]
 pub(crate) struct Expected {
     pub(crate) number: u64,
     pub(crate) node: u64,

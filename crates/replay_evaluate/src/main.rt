@@ -29,7 +29,7 @@ use room::{byte_room, out_room};
 
 // What is seen of a call: its refusal, the root's answer, whether the work space is as expected, and whether the output
 // behind the pairs is untouched
-#[derive(Drop)]
+#[derive(Clone, Copy)]
 struct Seen {
     refusal: Refusal,
     root: Words,

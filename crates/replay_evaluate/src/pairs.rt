@@ -7,7 +7,7 @@ use decimals::{Word, next_word};
 
 // As many words as were written, with the offset behind the last and whether all are the same; or the offset of what is no
 // word, which is that of the text's end where it comes too soon.
-#[derive(Drop)]
+#[derive(Clone, Copy)]
 pub(crate) enum Pairs {
     Read { next: usize, same: bool },
     Bad(usize),

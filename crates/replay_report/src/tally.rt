@@ -7,14 +7,14 @@ ghost use Rattle.replay_report.specs.Tallies as tallies;
 use super::turn::Turn;
 
 // There may be a case more; the text has ended; or the offset of a fault.
-#[derive(Drop)]
+#[derive(Clone, Copy)]
 pub enum Stage {
     Going,
     Ended,
     Faulty(usize),
 }
 
-#[derive(Drop)]
+#[derive(Clone, Copy)]
 pub struct Tally {
     pub at: usize,
     pub cases: u64,

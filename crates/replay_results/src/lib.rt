@@ -20,7 +20,7 @@ pub use words::alike;
 
 pub const ROW_WORDS: usize = 16;
 
-#[derive(Drop)]
+#[derive(Clone, Copy)]
 pub struct Expected {
     pub number: u64,
     pub node: u64,

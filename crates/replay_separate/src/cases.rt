@@ -14,7 +14,7 @@ use replay_results::ROW_WORDS;
 const LARGEST: u64 = 4294967295;
 
 // What is asked of a list: which variables there are, and which of them are run bits
-#[derive(Drop)]
+#[derive(Clone, Copy)]
 pub(crate) struct Bounds {
     pub(crate) n: u32,
     pub(crate) marks: u32,

@@ -25,7 +25,7 @@ pub(crate) fn largest() -> [u64; ROW_WORDS]
     ]
 }
 
-#[derive(Drop)]
+#[derive(Clone, Copy)]
 pub(crate) struct Expected {
     pub(crate) number: u64,
     pub(crate) node: u64,

@@ -17,7 +17,7 @@ use shapes::fit::shape_fault;
 use shapes::gate::gate_fault;
 
 // The tests: numbers 3 to 5, number 6, number 8, number 14
-#[derive(Drop)]
+#[derive(Clone, Copy)]
 pub enum Test {
     Layout,
     Verification,

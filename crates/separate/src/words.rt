@@ -8,7 +8,7 @@ use list_texts::{Rest, rest_from};
 use list_words::{Entry, next_entry};
 
 // A number; or nothing, and the message is written.
-#[derive(Drop)]
+#[derive(Clone, Copy)]
 pub(crate) enum Number {
     Value(u32),
     Nothing,

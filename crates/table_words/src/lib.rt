@@ -6,7 +6,7 @@ ghost use Rattle.table_words.specs.Said.{Said};
 
 use meaning::{BitVector, Cofactors, LutBit, Removed, TableProgram};
 
-#[derive(Drop)]
+#[derive(Clone, Copy)]
 pub struct Words {
     pub number: u64,
     pub first: u64,

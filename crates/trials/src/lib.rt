@@ -14,7 +14,7 @@ use nodes::node_count;
 use roots::root_under;
 
 // The answers of both roots
-#[derive(Drop)]
+#[derive(Clone, Copy)]
 pub struct Roots {
     pub first: Answer,
     pub second: Answer,

@@ -23,6 +23,7 @@ fn write_name(name: &[u8], out: &mut [u8]) -> Written
     if out.len() < name.len() {
         return Written::TooShort;
     }
-    let count = bytes::copy(name, out);
+    let count = name.len();
+    out[..count].copy_from_slice(name);
     Written::Bytes(count as u64)
 }

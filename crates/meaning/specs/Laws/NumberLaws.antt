@@ -139,7 +139,7 @@ module _ (n : ℕ) (fault : ℕ → ℕ) where
 
   pub lowest_says : (a : List ℕ) → ((i : ℕ) → is_in (fault i) (0 ∷ a) ≡ true) → Says (at_lowest n fault) a
   lowest_says a h = elim (dec_lt (lowest faulty n) n) [
-    | yes l ↦ record { within = rw (lowest_there l) (h (lowest faulty n)) }
+    | yes l ↦ record { within = subst (λ (r : Refusal). is_in r.number (0 ∷ a) ≡ true) (sym (lowest_there l)) (h (lowest faulty n)) }
     | no l ↦ record { within = rw (lowest_none l) refl }
   ]
 
