@@ -1,0 +1,9 @@
+-- `words_of` meets its contract, for a value and for a failure.
+use borrow.Author.Rules.{rules}
+use Rattle.answer_words.proofs.words_of.Goals as goal
+
+pub returns-in-Value : goal.returns-in-Value
+returns-in-Value c = rw c.answer-1.given.1
+
+pub returns-in-Failed : goal.returns-in-Failed
+returns-in-Failed c = rw (c.answer-in-Failed-1.given.1, c.failure_number.ensures)

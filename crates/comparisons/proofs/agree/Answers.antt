@@ -1,0 +1,7 @@
+-- `agree` meets its contract: a first answer without a value agrees with none.
+use mathlib.Core.Path.{refl, ◌∙◌}
+use borrow.Author.Rules.{rules}
+use Rattle.comparisons.proofs.agree.Goals as goal
+
+pub returns : goal.returns
+returns c = c.is_value.ensures ∙ rw c.first-1.given.1 refl

@@ -1,0 +1,15 @@
+-- `next_word` meets its contract. The invariant: the blanks passed over change nothing.
+use Rattle.decimals.specs.Laws.{word_end, word_blank, word_number}
+use Rattle.decimals.specs.Words.{word, next_word}
+use borrow.Author.Tests.{not-true, not-false}
+use borrow.Author.Rules.{rules}
+use lib.ListN.{length, drop}
+use Prim.Native.Nat.{◌-◌}
+use mathlib.Core.Path.{◌≡◌, sym, refl, ◌∙◌}
+use Rattle.decimals.proofs.next_word.Given as goal
+
+abbrev pub invariant-loop-i : goal.invariant-loop-i
+invariant-loop-i l = word l.i (drop l.i l.text) ≡ word l.at (drop l.at l.text)
+
+abbrev pub decreases-loop-i : goal.decreases-loop-i
+decreases-loop-i l = length l.text - l.i

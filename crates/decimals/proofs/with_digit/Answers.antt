@@ -1,0 +1,18 @@
+-- `with_digit` meets its contract: what it requires is that neither the product nor the sum wraps.
+use Rattle.decimals.specs.Laws.{extends_is}
+use borrow.Author.Rules.{rules}
+use native.Mathlib.Omega.{arith}
+use Rattle.decimals.proofs.with_digit.Goals as goal
+
+pub overflow_mul-result : goal.overflow_mul-result
+overflow_mul-result c =
+    let s = c in
+    let e = extends_is s.args.value s.args.b s.requires in omega arith
+
+pub digit_of-requires : goal.digit_of-requires
+digit_of-requires c =
+    let s = c in
+    let e = extends_is s.args.value s.args.b s.requires in omega arith
+
+pub overflow_add-result : goal.overflow_add-result
+overflow_add-result c = let e = extends_is c.args.value c.args.b c.requires in omega arith

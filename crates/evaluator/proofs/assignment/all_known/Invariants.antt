@@ -1,0 +1,20 @@
+-- `all_known` meets its contract: the loop has passed known bytes only, so what is left decides.
+use Rattle.lists.specs.Scan.{every_stop, every_more, every_done}
+use Rattle.meaning.specs.Laws.TestLaws.{is_le, is_above}
+use Rattle.meaning.specs.Rules.Refusals.{every}
+use Rattle.meaning.specs.Rules.Answers.{undriven_byte}
+use native.Mathlib.Omega.{arith}
+use mathlib.Core.Path.{◌≡◌, refl, sym, ◌∙◌}
+use mathlib.Core.List.{List}
+use mathlib.Core.Bool.{false, true}
+use lib.ListN.{length, drop, get_or}
+use lib.Dec.{leb}
+use Prim.Native.Nat.{ℕ, ◌≤◌, ◌-◌}
+use borrow.Author.Rules.{rules}
+use Rattle.evaluator.proofs.assignment.all_known.Given as goal
+
+abbrev pub invariant-loop-at : goal.invariant-loop-at
+invariant-loop-at l = (l.at ≤ l.at-end) × (l.at-end ≡ length l.bytes) × (every (λ b. leb b undriven_byte) (drop l.at l.bytes) ≡ every (λ b. leb b undriven_byte) l.bytes)
+
+abbrev pub decreases-loop-at : goal.decreases-loop-at
+decreases-loop-at l = l.at-end - l.at

@@ -1,0 +1,45 @@
+use mathlib.Core.Path.{◌≡◌, sym, ap, ◌∙◌}
+use mathlib.Core.Bool.{false, true}
+use mathlib.Core.List.{List}
+use Prim.Native.Nat.{ℕ, ◌<◌, ◌-◌}
+use lib.ListN.{length, get_or}
+use lib.Dec.{eqb, leb}
+use borrow.Author.Tests.{eq-eqb, ne_eqb}
+use borrow.Author.Rules.{rules}
+use native.Mathlib.Omega.{arith}
+use Rattle.meaning.specs.Rules.Trees.{kind_at, datum_at}
+use Rattle.meaning.specs.Rules.Kinds.{program_word}
+use Rattle.faults.specs.Leaves.{arg_words, arg_none}
+use Rattle.faults.proofs.arg_wrong.Goals as goal
+
+pub returns-then-children-eq0 : goal.returns-then-children-eq0
+returns-then-children-eq0 c = sym (arg_none c.args.nodes.now c.args.depth c.args.children.now c.if-children-eq0.true)
+
+pub kind_of-requires : goal.kind_of-requires
+kind_of-requires c = omega (arith, c.requires 0 (omega arith), c.wide-index.ensures.0)
+
+pub returns-then-kind_of-ne-PROGRAM : goal.returns-then-kind_of-ne-PROGRAM
+returns-then-kind_of-ne-PROGRAM c =
+    let ns : List ℕ = c.args.nodes.now in
+    let ks : List ℕ = c.args.children.now in
+    let depth : ℕ = c.args.depth in
+    let any : 0 < length ks = omega arith in
+    let first : c.wide-index.result ≡ get_or ks 0 0 = c.wide-index.ensures.0 in
+    let kind : c.kind_of.result ≡ kind_at ns (get_or ks 0 0) = c.kind_of.ensures ∙ ap (kind_at ns) first in
+    let other : eqb (kind_at ns (get_or ks 0 0)) program_word ≡ false = ne_eqb (kind_at ns (get_or ks 0 0)) program_word (λ e. omega (arith, kind, c.if-kind_of-ne-PROGRAM.true, e)) in
+    sym (arg_words ns depth ks any ∙ rw other)
+
+pub datum_of-requires : goal.datum_of-requires
+datum_of-requires c = omega (arith, c.requires 0 (omega arith), c.wide-index.ensures.0)
+
+pub returns : goal.returns
+returns c =
+    let ns : List ℕ = c.args.nodes.now in
+    let ks : List ℕ = c.args.children.now in
+    let depth : ℕ = c.args.depth in
+    let any : 0 < length ks = omega arith in
+    let first : c.wide-index.result ≡ get_or ks 0 0 = c.wide-index.ensures.0 in
+    let kind : c.kind_of.result ≡ kind_at ns (get_or ks 0 0) = c.kind_of.ensures ∙ ap (kind_at ns) first in
+    let program : eqb (kind_at ns (get_or ks 0 0)) program_word ≡ true = eq-eqb (kind_at ns (get_or ks 0 0)) program_word (omega (arith, kind, c.if-kind_of-ne-PROGRAM.false)) in
+    let value : c.datum_of.result ≡ datum_at ns (get_or ks 0 0) = c.datum_of.ensures ∙ ap (datum_at ns) first in
+    ap (leb depth) value ∙ sym (arg_words ns depth ks any ∙ rw program)

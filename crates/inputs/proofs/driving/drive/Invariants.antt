@@ -1,0 +1,15 @@
+-- `drive` meets its contract: the variables from the j-th on are driven, and the others as they were.
+use Rattle.inputs.specs.Driving.{DrivenFrom, drive_none, drive_next, drive_done}
+use lib.ListN.{length, length-set, get_or}
+use borrow.Author.Rules.{rules}
+use native.Mathlib.Omega.{arith}
+use Prim.Native.Nat.{ℕ, suc, ◌≤◌, ◌<◌, ◌-◌}
+use mathlib.Core.List.{List}
+use mathlib.Core.Path.{◌≡◌, refl, subst}
+use Rattle.inputs.proofs.driving.drive.Given as goal
+
+abbrev pub invariant-loop-j : goal.invariant-loop-j
+invariant-loop-j l = (l.j ≤ length l.variables) × (length l.bytes ≡ length l.initial.bytes) × DrivenFrom l.initial.bytes l.variables l.index l.j l.bytes
+
+abbrev pub decreases-loop-j : goal.decreases-loop-j
+decreases-loop-j l = l.j

@@ -1,0 +1,15 @@
+-- `fill` meets its contract. The invariant: the places passed, with those to come filled, are as all are to be.
+use Rattle.lent_words.specs.LentLaws.{filled_from, filled_more, filled_whole}
+use Rattle.lent_words.specs.Lent.{narrow, filled}
+use borrow.Author.Rules.{rules}
+use native.Mathlib.Omega.{arith}
+use lib.ListN.{length, length-set}
+use Prim.Native.Nat.{◌≤◌, ◌-◌}
+use mathlib.Core.Path.{◌≡◌, refl, sym, ◌∙◌}
+use Rattle.lent_words.proofs.narrow.fill.Given as goal
+
+abbrev pub invariant-loop-place : goal.invariant-loop-place
+invariant-loop-place l = (l.place ≤ l.place-end) × (l.place-end ≡ length l.initial.words) × (length l.words ≡ length l.initial.words) × (filled_from narrow l.words l.place ≡ filled narrow 0 l.initial.words)
+
+abbrev pub decreases-loop-place : goal.decreases-loop-place
+decreases-loop-place l = l.place-end - l.place

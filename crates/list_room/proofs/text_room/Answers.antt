@@ -1,0 +1,6 @@
+-- `text_room` meets its contract.
+use Rattle.list_room.specs.Room.{zeros_are}
+use Rattle.list_room.proofs.text_room.Goals as goal
+
+pub returns : goal.returns
+returns c = zeros_are 2097152

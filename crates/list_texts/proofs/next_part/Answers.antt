@@ -1,0 +1,23 @@
+-- `next_part` meets its contract: by the count.
+use mathlib.Core.Path.{sym, ◌∙◌}
+use Rattle.list_texts.specs.Counted.{next_part, filled_part}
+use borrow.Author.Rules.{rules}
+use Rattle.list_texts.proofs.next_part.Goals as goal
+
+pub returns-in-Value : goal.returns-in-Value
+unfolding next_part filled_part
+returns-in-Value c =
+    let h = sym c.next_entry-entry.ensures ∙ c.entry-1.given.1 in
+    record {
+      value = c.counted_words.ensures.value ∙ sym (rw h);
+      places_after = c.counted_words.ensures.places_after ∙ sym (rw h);
+    }
+
+pub returns-in-Bad : goal.returns-in-Bad
+unfolding next_part filled_part
+returns-in-Bad c =
+    let h = sym c.next_entry-entry.ensures ∙ c.entry-in-Bad-1.given.1 in
+    record {
+      value = sym (rw h);
+      places_after = sym (rw h);
+    }

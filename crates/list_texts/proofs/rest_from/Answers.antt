@@ -1,0 +1,17 @@
+-- `rest_from` meets its contract: by the word that stands there.
+use mathlib.Core.Path.{sym, ◌∙◌}
+use Rattle.list_texts.specs.Counted.{rest_from}
+use borrow.Author.Rules.{rules}
+use Rattle.list_texts.proofs.rest_from.Goals as goal
+
+pub returns-in-Value : goal.returns-in-Value
+unfolding rest_from
+returns-in-Value c = sym (rw (sym c.next_word-word.ensures ∙ c.enum_told-1.given.1))
+
+pub returns-in-End : goal.returns-in-End
+unfolding rest_from
+returns-in-End c = sym (rw (sym c.next_word-word.ensures ∙ c.enum_told-in-End-1.given.1))
+
+pub returns-in-Bad : goal.returns-in-Bad
+unfolding rest_from
+returns-in-Bad c = sym (rw (sym c.next_word-word.ensures ∙ c.word-1.given.1))

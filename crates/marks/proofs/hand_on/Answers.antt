@@ -1,0 +1,59 @@
+use Prim.Native.Nat.{suc, ℕ, ◌<◌, ◌+◌}
+use Rattle.meaning.specs.Rules.Kinds.{cycle_word}
+use lib.Dec.{eqb}
+use mathlib.Core.Bool.{cond}
+use mathlib.Core.Path.{◌≡◌, sym, ap₂, ◌∙◌}
+use mathlib.Core.List.{List}
+use lib.ListN.{length}
+use borrow.Author.Rules.{rules}
+use native.Mathlib.Omega.{arith}
+use Rattle.meaning.specs.Rules.Trees.{children_at}
+use Rattle.lists.specs.Laid.{part_fits}
+use Rattle.columns.specs.Columns.{cell, mark_column}
+use Rattle.marks.specs.Handing.{lowered, handed_on, turn_reached, turn_unreached}
+use Rattle.marks.proofs.hand_on.Goals as goal
+
+pub returns-then-mark-eq0 : goal.returns-then-mark-eq0
+returns-then-mark-eq0 c =
+    let ns : List ℕ = c.args.nodes.now in
+    let ps : List ℕ = c.args.pool.now in
+    let base : ℕ = c.args.base in
+    let p : ℕ = c.args.p in
+    let work : List ℕ = c.args.work.now in
+    let none : cell work mark_column (base + p) ≡ 0 = sym c.get-mark.ensures ∙ c.if-mark-eq0.true in
+    sym (turn_unreached ns ps base p work none)
+
+pub handed_on-handed-requires : goal.handed_on-handed-requires
+handed_on-handed-requires c = omega (arith, c.get-mark.ensures, c.requires.p_bound_2)
+
+pub children_of-requires : goal.children_of-requires
+children_of-requires c = 
+    record {
+      i_bound = c.requires.p_bound;
+      part_fits = part_fits c.args.nodes.now c.args.pool.now c.args.p c.requires.well_laid;
+    }
+
+pub lower_all-requires : goal.lower_all-requires
+lower_all-requires c =
+    let ns : List ℕ = c.args.nodes.now in
+    let ps : List ℕ = c.args.pool.now in
+    let base : ℕ = c.args.base in
+    let p : ℕ = c.args.p in
+    let work : List ℕ = c.args.work.now in
+    λ k h.
+    let l : k < length (children_at ns ps p) = rw c.children_of.ensures at h in
+    rw c.children_of.ensures (omega (arith, c.requires.well_laid.2 k l, c.requires.p_bound, c.requires.nodes_in_bounds))
+
+pub returns : goal.returns
+returns c =
+    let ns : List ℕ = c.args.nodes.now in
+    let ps : List ℕ = c.args.pool.now in
+    let base : ℕ = c.args.base in
+    let p : ℕ = c.args.p in
+    let work : List ℕ = c.args.work.now in
+    let mark : c.get-mark.result ≡ cell work mark_column (base + p) = c.get-mark.ensures in
+    let handed : c.handed_on-handed.result ≡ handed_on ns p (cell work mark_column (base + p)) =
+    c.handed_on-handed.ensures ∙ ap₂ (λ (k m : ℕ). cond (eqb k cycle_word) (suc m) m) c.kind_of.ensures mark in
+    c.lower_all.ensures
+    ∙ ap₂ (λ (m : ℕ) (cs : List ℕ). lowered base m cs work) handed c.children_of.ensures
+    ∙ sym (turn_reached ns ps base p work (omega (arith, mark)))

@@ -1,0 +1,15 @@
+-- `and_of` meets its contract: by the cases of both answers; beside a failure, `zeros_or` decides.
+use borrow.Author.Rules.{rules}
+use Rattle.operators.proofs.and_of.Goals as goal
+
+pub returns-in-Value-y : goal.returns-in-Value-y
+returns-in-Value-y c = simp (c.x-1.given.1, c.y-1.given.1)
+
+pub returns-in-Failed-y : goal.returns-in-Failed-y
+returns-in-Failed-y c = simp (c.x-1.given.1, c.y-in-Value-1.given.1, c.zeros_or.ensures)
+
+pub returns-in-Value-y-2 : goal.returns-in-Value-y-2
+returns-in-Value-y-2 c = simp (c.x-in-Failed-x-1.given.1, c.y-in-Failed-1.given.1, c.zeros_or-in-Value-y-2.ensures)
+
+pub returns-in-Failed-y-2 : goal.returns-in-Failed-y-2
+returns-in-Failed-y-2 c = simp (c.x-in-Failed-x-1.given.1, c.y-in-Failed-2-1.given.1)

@@ -1,0 +1,11 @@
+-- `xor_of` meets its contract: a failure leaves, the first before the second.
+use Rattle.operators.specs.Widths.{xor_first}
+use mathlib.Core.Path.{sym, ◌∙◌}
+use borrow.Author.Rules.{rules}
+use Rattle.operators.proofs.xor_of.Goals as goal
+
+pub returns-in_default : goal.returns-in_default
+returns-in_default c = c.enum_told-1.given.1 ∙ sym (rw c.enum_told-1.given.1 (xor_first _ c.args.y))
+
+pub returns : goal.returns
+returns c = simp (c.x-1.given.1, c.y-1.given.1)

@@ -1,0 +1,16 @@
+-- `compared` meets its contract: reading the pairs does not go back, nor past the text's end.
+use Rattle.replay_evaluate.specs.Pairs.{ReadOn}
+use mathlib.Core.Path.{sym, subst}
+use native.Mathlib.Omega.{arith}
+use lib.Seq.{length-take-le}
+use lib.ListN.{length}
+use borrow.Author.Rules.{rules}
+use Rattle.replay_evaluate.proofs.compared.Goals as goal
+
+pub slice_bounds-next_pairs-end : goal.slice_bounds-next_pairs-end
+slice_bounds-next_pairs-end c = sym (length-take-le c.args.expected.pairs c.args.out.now (omega (arith, c.if-count-out.false)))
+
+pub returns-in-Read : goal.returns-in-Read
+returns-in-Read c =
+    let on = subst (ReadOn (length c.args.text.now) c.args.at) c.reading-1.given.1 c.next_pairs-reading.ensures in
+    (on.0, on.1, c.judged.ensures)

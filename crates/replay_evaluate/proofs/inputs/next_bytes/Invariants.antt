@@ -1,0 +1,14 @@
+-- `next_bytes` meets its contract. The invariant: reading has not gone back, nor past the text's end.
+use Rattle.replay_evaluate.specs.Inputs.{ByteAhead}
+use borrow.Author.Rules.{rules}
+use native.Mathlib.Omega.{arith}
+use lib.ListN.{length, length-set}
+use Prim.Native.Nat.{◌≤◌, ◌-◌}
+use mathlib.Core.Path.{◌≡◌, refl, subst}
+use Rattle.replay_evaluate.proofs.inputs.next_bytes.Given as goal
+
+abbrev pub invariant-loop-place : goal.invariant-loop-place
+invariant-loop-place l = (l.place ≤ l.place-end) × (l.place-end ≡ length l.initial.places) × (length l.places ≡ length l.initial.places) × (l.at ≤ l.next) × (l.next ≤ length l.text)
+
+abbrev pub decreases-loop-place : goal.decreases-loop-place
+decreases-loop-place l = l.place-end - l.place

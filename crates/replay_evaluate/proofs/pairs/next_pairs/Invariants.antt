@@ -1,0 +1,14 @@
+-- `next_pairs` meets its contract. The invariant: reading has not gone back, nor past the text's end.
+use Rattle.decimals.specs.Claims.{value_ahead}
+use borrow.Author.Rules.{rules}
+use native.Mathlib.Omega.{arith}
+use lib.ListN.{length}
+use Prim.Native.Nat.{◌≤◌, ◌-◌}
+use mathlib.Core.Path.{◌≡◌, refl, sym, ◌∙◌}
+use Rattle.replay_evaluate.proofs.pairs.next_pairs.Given as goal
+
+abbrev pub invariant-loop-place : goal.invariant-loop-place
+invariant-loop-place l = (l.place ≤ l.place-end) × (l.place-end ≡ length l.written) × (l.at ≤ l.next) × (l.next ≤ length l.text)
+
+abbrev pub decreases-loop-place : goal.decreases-loop-place
+decreases-loop-place l = l.place-end - l.place

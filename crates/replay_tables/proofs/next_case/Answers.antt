@@ -1,0 +1,13 @@
+-- `next_case` meets its contract: a case begins with a row that fits, and gets on behind it.
+use lib.ListN.{length}
+use Prim.Native.Nat.{◌+◌}
+use native.Mathlib.Omega.{arith}
+use Rattle.case_rows.specs.CaseRows.{case_row_gives}
+use mathlib.Core.Path.{refl}
+use borrow.Author.Rules.{rules}
+use Rattle.replay_tables.proofs.next_case.Goals as goal
+
+pub returns-in-Whole : goal.returns-in-Whole
+returns-in-Whole c =
+    let got = case_row_gives c.args.text.now c.args.at _ _ _ c.reading-1.given.0.0 _ _ c.next_case_row-reading.ensures c.reading-1.given.1 refl tt in
+    (omega (arith, got.0.past), got.0.within, c.tried.ensures)

@@ -1,0 +1,16 @@
+-- `table_rows::cofactor` meets its contract: the loop has made the table of the rows below i.
+use lib.Pow.{pow_mono}
+use mathlib.Core.Path.{◌≡◌, refl, ◌∙◌}
+use Prim.Native.Nat.{◌+◌, ◌-◌, ◌^◌, ◌<◌, ◌≤◌}
+use native.Mathlib.Omega.{arith}
+use borrow.Author.Rules.{rules}
+use Rattle.meaning.specs.Rules.Words.{bit_at}
+use Rattle.meaning.specs.Rules.Tables as meant
+use Rattle.table_rows.specs.RowLaws.{row_room, row_added, insert_lt}
+use Rattle.table_rows.proofs.cofactor.Given as goal
+
+abbrev pub invariant-loop-i : goal.invariant-loop-i
+invariant-loop-i l = (l.i ≤ l.rows) × (l.made ≡ meant.table (λ j. bit_at l.p (meant.insert_bit l.q l.b j)) l.i)
+
+abbrev pub decreases-loop-i : goal.decreases-loop-i
+decreases-loop-i l = l.rows - l.i

@@ -1,0 +1,15 @@
+-- `tables::inputs::are_bits` meets its contract: the loop has passed bits only, so what is left decides.
+use lib.ListN.{length, drop}
+use mathlib.Core.Path.{◌≡◌, refl, sym, ◌∙◌}
+use Prim.Native.Nat.{◌-◌, ◌≤◌}
+use native.Mathlib.Omega.{arith}
+use borrow.Author.Rules.{rules}
+use Rattle.meaning.specs.Rules.Tables as meant
+use Rattle.tables.specs.Inputs.{bits_on, bits_stop, bits_end}
+use Rattle.tables.proofs.inputs.are_bits.Given as goal
+
+abbrev pub invariant-loop-i : goal.invariant-loop-i
+invariant-loop-i l = (l.i ≤ length l.inputs) × (l.i-end ≡ length l.inputs) × (meant.are_bits (drop l.i l.inputs) ≡ meant.are_bits l.inputs)
+
+abbrev pub decreases-loop-i : goal.decreases-loop-i
+decreases-loop-i l = length l.inputs - l.i
