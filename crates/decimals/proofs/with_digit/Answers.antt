@@ -6,13 +6,11 @@ use Rattle.decimals.proofs.with_digit.Goals as goal
 
 pub overflow_mul-result : goal.overflow_mul-result
 overflow_mul-result c =
-    let s = c in
-    let e = extends_is s.args.value s.args.b s.requires in omega arith
+    let e = extends_is c.args.value c.args.b c.requires in omega arith
 
 pub digit_of-requires : goal.digit_of-requires
 digit_of-requires c =
-    let s = c in
-    let e = extends_is s.args.value s.args.b s.requires in omega arith
+    let e = extends_is c.args.value c.args.b c.requires in omega arith
 
 pub overflow_add-result : goal.overflow_add-result
 overflow_add-result c = let e = extends_is c.args.value c.args.b c.requires in omega arith

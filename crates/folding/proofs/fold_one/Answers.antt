@@ -29,15 +29,13 @@ overflow_sub-result c = omega (arith, c.requires.bit (sym c.kind_in.ensures ∙ 
 pub returns-then-kind_in-eq-CONSTANT : goal.returns-then-kind_in-eq-CONSTANT
 unfolding folded_one
 returns-then-kind_in-eq-CONSTANT c =
-    let s = s in
-    let kind : ℕ = cell s.args.work.now kind_column s.args.operand in
+    let kind : ℕ = cell c.args.work.now kind_column c.args.operand in
     let is : eqb kind 0 ≡ true = eq-eqb kind 0 (sym c.kind_in.ensures ∙ c.if-kind_in-eq-CONSTANT.true) in
-    rw (ne_eqb s.args.program 0 c.if-program-eq0.false, ne_eqb s.args.program 3 c.if-program-eq3.false, ne_eqb s.args.program 2 c.if-program-eq2.false, is) (ap (λ (b : ℕ). Constant (1 - b)) c.datum_in.ensures)
+    rw (ne_eqb c.args.program 0 c.if-program-eq0.false, ne_eqb c.args.program 3 c.if-program-eq3.false, ne_eqb c.args.program 2 c.if-program-eq2.false, is) (ap (λ (b : ℕ). Constant (1 - b)) c.datum_in.ensures)
 
 pub returns : goal.returns
 unfolding folded_one
 returns c =
-    let s = s in
-    let kind : ℕ = cell s.args.work.now kind_column s.args.operand in
+    let kind : ℕ = cell c.args.work.now kind_column c.args.operand in
     let is : eqb kind 0 ≡ false = ne_eqb kind 0 (λ e. c.if-kind_in-eq-CONSTANT.false (c.kind_in.ensures ∙ e)) in
-    rw (ne_eqb s.args.program 0 c.if-program-eq0.false, ne_eqb s.args.program 3 c.if-program-eq3.false, ne_eqb s.args.program 2 c.if-program-eq2.false, is)
+    rw (ne_eqb c.args.program 0 c.if-program-eq0.false, ne_eqb c.args.program 3 c.if-program-eq3.false, ne_eqb c.args.program 2 c.if-program-eq2.false, is)

@@ -17,17 +17,15 @@ kind_in-requires c = omega (arith, c.requires.formed.room, c.requires.home.insid
 
 pub overflow_add-j : goal.overflow_add-j
 overflow_add-j c =
-    let s = s in
-    let g : FormAt s.args.nodes.now s.args.pool.now s.args.work.now s.args.h = s.requires.0.forms s.args.h s.requires.1.0.inside s.requires.1.0 in
+    let g : FormAt c.args.nodes.now c.args.pool.now c.args.work.now c.args.h = c.requires.formed.forms c.args.h c.requires.home.inside c.requires.home in
     let few = g.operands (sym c.kind_in.ensures ∙ c.if-kind_in-eq-LUT.true) in
-    record { fits = omega (arith, few, s.requires.1.1) }
+    record { fits = omega (arith, few, c.requires.j_bound) }
 
 pub get-requires : goal.get-requires
 get-requires c =
-    let s = s in
-    let g : FormAt s.args.nodes.now s.args.pool.now s.args.work.now s.args.h = s.requires.0.forms s.args.h s.requires.1.0.inside s.requires.1.0 in
+    let g : FormAt c.args.nodes.now c.args.pool.now c.args.work.now c.args.h = c.requires.formed.forms c.args.h c.requires.home.inside c.requires.home in
     let few = g.operands (sym c.kind_in.ensures ∙ c.if-kind_in-eq-LUT.true) in
-    omega (arith, few, s.requires.1.1, s.requires.0.room, s.requires.1.0.inside)
+    omega (arith, few, c.requires.j_bound, c.requires.formed.room, c.requires.home.inside)
 
 pub returns-then-kind_in-eq-LUT : goal.returns-then-kind_in-eq-LUT
 unfolding kid_at
@@ -35,33 +33,29 @@ returns-then-kind_in-eq-LUT c = c.get.ensures ∙ sym (rw (eq-eqb (cell c.args.w
 
 pub children_of-children-requires : goal.children_of-children-requires
 children_of-children-requires c =
-    let s = s in
     record {
-      i_bound = s.requires.1.0.inside;
-      part_fits = part_fits s.args.nodes.now s.args.pool.now s.args.h (s.requires.0.sound.0 s.args.h s.requires.1.0.inside);
+      i_bound = c.requires.home.inside;
+      part_fits = part_fits c.args.nodes.now c.args.pool.now c.args.h (c.requires.formed.sound.0 c.args.h c.requires.home.inside);
     }
 
 pub offset_bounds-children-j : goal.offset_bounds-children-j
 offset_bounds-children-j c =
-    let s = s in
-    let g : FormAt s.args.nodes.now s.args.pool.now s.args.work.now s.args.h = s.requires.0.forms s.args.h s.requires.1.0.inside s.requires.1.0 in
-    record { fits = omega (arith, g.few, s.requires.1.1) }
+    let g : FormAt c.args.nodes.now c.args.pool.now c.args.work.now c.args.h = c.requires.formed.forms c.args.h c.requires.home.inside c.requires.home in
+    record { fits = omega (arith, g.few, c.requires.j_bound) }
 
 pub bounds-children-j : goal.bounds-children-j
 bounds-children-j c =
-    let s = s in
-    let g : FormAt s.args.nodes.now s.args.pool.now s.args.work.now s.args.h = s.requires.0.forms s.args.h s.requires.1.0.inside s.requires.1.0 in
-    let there : s.args.j < length (children_at s.args.nodes.now s.args.pool.now s.args.h) = omega (arith, g.given (λ e. c.if-kind_in-eq-LUT.false (c.kind_in.ensures ∙ e)), s.requires.1.1) in
+    let g : FormAt c.args.nodes.now c.args.pool.now c.args.work.now c.args.h = c.requires.formed.forms c.args.h c.requires.home.inside c.requires.home in
+    let there : c.args.j < length (children_at c.args.nodes.now c.args.pool.now c.args.h) = omega (arith, g.given (λ e. c.if-kind_in-eq-LUT.false (c.kind_in.ensures ∙ e)), c.requires.j_bound) in
     omega (arith, there, ap length c.children_of-children.ensures)
 
 pub home_of-requires : goal.home_of-requires
 home_of-requires c =
-    let s = s in
-    let g : FormAt s.args.nodes.now s.args.pool.now s.args.work.now s.args.h = s.requires.0.forms s.args.h s.requires.1.0.inside s.requires.1.0 in
-    let there : s.args.j < length (children_at s.args.nodes.now s.args.pool.now s.args.h) = omega (arith, g.given (λ e. c.if-kind_in-eq-LUT.false (c.kind_in.ensures ∙ e)), s.requires.1.1) in
-    let low = (s.requires.0.sound.0 s.args.h s.requires.1.0.inside).2 s.args.j there in
-    let is : c.wide.result ≡ get_or (children_at s.args.nodes.now s.args.pool.now s.args.h) s.args.j 0 = c.wide.ensures.0 ∙ ap (λ (l : List ℕ). get_or l s.args.j 0) c.children_of-children.ensures in
-    omega (arith, low, is, s.requires.0.room, s.requires.1.0.inside)
+    let g : FormAt c.args.nodes.now c.args.pool.now c.args.work.now c.args.h = c.requires.formed.forms c.args.h c.requires.home.inside c.requires.home in
+    let there : c.args.j < length (children_at c.args.nodes.now c.args.pool.now c.args.h) = omega (arith, g.given (λ e. c.if-kind_in-eq-LUT.false (c.kind_in.ensures ∙ e)), c.requires.j_bound) in
+    let low = (c.requires.formed.sound.0 c.args.h c.requires.home.inside).2 c.args.j there in
+    let is : c.wide.result ≡ get_or (children_at c.args.nodes.now c.args.pool.now c.args.h) c.args.j 0 = c.wide.ensures.0 ∙ ap (λ (l : List ℕ). get_or l c.args.j 0) c.children_of-children.ensures in
+    omega (arith, low, is, c.requires.formed.room, c.requires.home.inside)
 
 pub returns : goal.returns
 unfolding kid_at

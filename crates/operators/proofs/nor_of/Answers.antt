@@ -8,8 +8,7 @@ use Rattle.operators.proofs.nor_of.Goals as goal
 
 pub not_of-left-requires : goal.not_of-left-requires
 not_of-left-requires c =
-    let s = c in
-    held s.requires.width widest_bus s.args.x s.requires.narrow s.requires.left
+    held c.requires.width widest_bus c.args.x c.requires.narrow c.requires.left
 
 pub not_of-right-requires : goal.not_of-right-requires
 not_of-right-requires c = held c.requires.width widest_bus c.args.y c.requires.narrow c.requires.right

@@ -37,12 +37,12 @@ pub answer_of-requires : goal.answer_of-requires
 answer_of-requires c = 
     record {
       filled = c.requires.filled;
-      logic = record { inside = c.requires.n_bound; marked = omega (arith, c.requires.filled.ready.marks c.args.n c.requires.n_bound, c.get.ensures, c.if-get-eq0.false); noProgram = λ e. c.if-kind_of-eq-PROGRAM.false (c.kind_of.ensures ∙ e) };
+      logic = record { inside = c.requires.n_bound; marked = omega (arith, c.requires.filled.ready.marks c.args.n c.requires.n_bound, c.get.ensures, c.if-get-eq0.false); no_program = λ e. c.if-kind_of-eq-PROGRAM.false (c.kind_of.ensures ∙ e) };
     }
 
 pub returns : goal.returns
 returns c =
-    let g : Logic c.args.nodes.now c.args.pool.now c.args.n = record { inside = c.requires.n_bound; marked = omega (arith, c.requires.filled.ready.marks c.args.n c.requires.n_bound, c.get.ensures, c.if-get-eq0.false); noProgram = λ e. c.if-kind_of-eq-PROGRAM.false (c.kind_of.ensures ∙ e) } in let p = pair_logic c.args.nodes.now c.args.pool.now (given c.args.bytes.now) c.args.n g in
+    let g : Logic c.args.nodes.now c.args.pool.now c.args.n = record { inside = c.requires.n_bound; marked = omega (arith, c.requires.filled.ready.marks c.args.n c.requires.n_bound, c.get.ensures, c.if-get-eq0.false); no_program = λ e. c.if-kind_of-eq-PROGRAM.false (c.kind_of.ensures ∙ e) } in let p = pair_logic c.args.nodes.now c.args.pool.now (given c.args.bytes.now) c.args.n g in
     record {
       state_value = ap (λ (w : Words). w.state) c.words_of-shown.ensures ∙ ap state_of c.answer_of.ensures ∙ sym p.0;
       value_value = ap (λ (w : Words). w.value) c.words_of-shown.ensures ∙ ap value_of c.answer_of.ensures ∙ sym p.1;

@@ -15,10 +15,9 @@ overflow_sub-result-2 c = omega (arith, c.requires.x_lt_mask)
 
 pub returns : goal.returns
 returns c =
-    let s = c in
-    let x : ℕ = s.args.x in
-    let mask : ℕ = s.args.mask in
-    let less : x < mask = s.requires.1 in
-    let small : mask < 2 ^ 64 = s.ranges.mask.fits in
+    let x : ℕ = c.args.x in
+    let mask : ℕ = c.args.mask in
+    let less : x < mask = c.requires.x_lt_mask in
+    let small : mask < 2 ^ 64 = c.ranges.mask.fits in
     let whole : 18446744073709551615 - (mask - x - 1) + (mask - x) ≡ 2 ^ 64 = omega (arith, less, small) in
-    next_is 64 mask x (18446744073709551615 - (mask - x - 1)) small s.requires.0 less whole
+    next_is 64 mask x (18446744073709551615 - (mask - x - 1)) small c.requires.among less whole

@@ -9,7 +9,7 @@ use borrow.Author.Rules.{rules}
 use Rattle.folding.proofs.dropping.drop_at.Goals as goal
 
 pub loop-j-init : goal.loop-j-init
-loop-j-init c = let s = c in (omega arith, omega (arith, s.requires), refl, moved_none s.args.operands.now s.args.at)
+loop-j-init c = (omega arith, omega (arith, c.requires), refl, moved_none c.args.operands.now c.args.at)
 
 pub loop-j-preserved : goal.loop-j-preserved
 loop-j-preserved c =

@@ -9,7 +9,7 @@ use borrow.Author.Rules.{rules}
 use Rattle.folding.proofs.dropping.first_ignored.Goals as goal
 
 pub loop-at-init : goal.loop-at-init
-loop-at-init c = let s = c in (omega arith, refl, none_yet (ignored_at s.args.program s.args.count))
+loop-at-init c = (omega arith, refl, none_yet (ignored_at c.args.program c.args.count))
 
 pub returns-then-ignores : goal.returns-then-ignores
 returns-then-ignores c =

@@ -23,24 +23,24 @@ pub returns-then-not-stands : goal.returns-then-not-stands
 returns-then-not-stands c =
     λ ss h.
     let at : ℕ = c.loop-at.at in
-    let bitsOnly : Bool = c.args.bits_only in
+    let bits_only : Bool = c.args.bits_only in
     let size : length ss ≡ length c.args.children.now = holds_length c.args.work.now c.args.base c.args.children.now ss h in
-    let asked : c.stands.result ≡ stands bitsOnly (nth_shape ss at) = c.stands.ensures ∙ ap (λ (k : ℕ). cond bitsOnly (eqb k 1) (ltb 0 k)) (c.nth_shape.ensures ss h) in
-    sym (every_stop bit (stands bitsOnly) ss at (omega (arith, size)) (told_no asked c.if-not-stands.true-raw)) ∙ c.loop-at.invariant ss h
+    let asked : c.stands.result ≡ stands bits_only (nth_shape ss at) = c.stands.ensures ∙ ap (λ (k : ℕ). cond bits_only (eqb k 1) (ltb 0 k)) (c.nth_shape.ensures ss h) in
+    sym (every_stop bit (stands bits_only) ss at (omega (arith, size)) (told_no asked c.if-not-stands.true-raw)) ∙ c.loop-at.invariant ss h
 
 pub loop-at-preserved : goal.loop-at-preserved
 loop-at-preserved c =
     λ ss h.
     let at : ℕ = c.loop-at.at in
-    let bitsOnly : Bool = c.args.bits_only in
+    let bits_only : Bool = c.args.bits_only in
     let size : length ss ≡ length c.args.children.now = holds_length c.args.work.now c.args.base c.args.children.now ss h in
-    let asked : c.stands.result ≡ stands bitsOnly (nth_shape ss at) = c.stands.ensures ∙ ap (λ (k : ℕ). cond bitsOnly (eqb k 1) (ltb 0 k)) (c.nth_shape.ensures ss h) in
-    every_more bit (stands bitsOnly) ss at (omega (arith, size)) (told_yes asked c.if-not-stands.false-raw) ∙ c.loop-at.invariant ss h
+    let asked : c.stands.result ≡ stands bits_only (nth_shape ss at) = c.stands.ensures ∙ ap (λ (k : ℕ). cond bits_only (eqb k 1) (ltb 0 k)) (c.nth_shape.ensures ss h) in
+    every_more bit (stands bits_only) ss at (omega (arith, size)) (told_yes asked c.if-not-stands.false-raw) ∙ c.loop-at.invariant ss h
 
 pub returns : goal.returns
 returns c =
     λ ss h.
     let at : ℕ = c.loop-at.at in
-    let bitsOnly : Bool = c.args.bits_only in
+    let bits_only : Bool = c.args.bits_only in
     let size : length ss ≡ length c.args.children.now = holds_length c.args.work.now c.args.base c.args.children.now ss h in
-    sym (every_done bit (stands bitsOnly) ss at (omega (arith, size))) ∙ c.loop-at.invariant ss h
+    sym (every_done bit (stands bits_only) ss at (omega (arith, size))) ∙ c.loop-at.invariant ss h
