@@ -124,7 +124,7 @@ loop-places-preserved c =
       c.lowest_of_stage-found.auto.work ∙ c.loop-places.invariant.3,
       c.lowest_of_stage-found.ensures.prepared_2,
       c.lowest_of_stage-found.ensures.drivable_2,
-      stage_none t n marks places within c.lowest_of_stage-found.result found (λ c.loop-places. omega (arith, c.if-found-power_of_two.false, limit, c.loop-places)),
+      stage_none t n marks places within c.lowest_of_stage-found.result found (λ l. omega (arith, c.if-found-power_of_two.false, limit, l)),
     )
 
 pub power_of_two-requires-2 : goal.power_of_two-requires-2

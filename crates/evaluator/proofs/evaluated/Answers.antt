@@ -112,8 +112,8 @@ answer_at-requires c =
     let row : ℕ = node_count ns - 1 in
     let last : row ≡ 0 + row = sym (zero-add row) in
     record {
-      row_in_bounds = (rw (count, after) (root_there ns ps (given bytes) 0 passed full row last, root_wide ns ps (given bytes) 0 passed full row last)).0;
-      wide = (rw (count, after) (root_there ns ps (given bytes) 0 passed full row last, root_wide ns ps (given bytes) 0 passed full row last)).1;
+      row_in_bounds = rw (count, after) (root_there ns ps (given bytes) 0 passed full row last);
+      wide = rw (count, after) (root_wide ns ps (given bytes) 0 passed full row last);
     }
 
 pub returns : goal.returns

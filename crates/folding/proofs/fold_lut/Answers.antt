@@ -42,7 +42,7 @@ returns-in_default c =
     let work : List ℕ = c.args.work.now in
     let ys : List ℕ = c.loop-count.operands in
     let f : Folding work xs p ys c.loop-count.left c.loop-count.count = c.loop-count.invariant in
-    let next : next_of work c.loop-count.left (take c.loop-count.count ys) ≡ Stay = sym c.next_rule-next.ensures ∙ c.enum_told-1.given.1 in
+    let next : next_of work c.loop-count.left (take c.loop-count.count ys) ≡ Stay = sym c.next_rule-next.ensures ∙ c.in_default.is in
     record {
       by_index = folding_stay f c.loop-count-test.true next;
       left = (f.most, f.left);
@@ -55,9 +55,9 @@ drop_at-requires c =
     let work : List ℕ = c.args.work.now in
     let ys : List ℕ = c.loop-count.operands in
     let f : Folding work xs p ys c.loop-count.left c.loop-count.count = c.loop-count.invariant in
-    let at : ℕ = c.next-1.given.0.0 in
-    let q : ℕ = c.next-1.given.0.1.0 in
-    let next : next_of work c.loop-count.left (take c.loop-count.count ys) ≡ Drop at q = sym c.next_rule-next.ensures ∙ c.next-1.given.1 in
+    let at : ℕ = c.in-Drop.at in
+    let q : ℕ = c.in-Drop.program in
+    let next : next_of work c.loop-count.left (take c.loop-count.count ys) ≡ Drop at q = sym c.next_rule-next.ensures ∙ c.in-Drop.is in
     (omega (arith, left_length f, next_inside work c.loop-count.left (take c.loop-count.count ys) at q next), omega (arith, f.size, f.most))
 
 pub loop-count-preserved : goal.loop-count-preserved
@@ -67,9 +67,9 @@ loop-count-preserved c =
     let work : List ℕ = c.args.work.now in
     let ys : List ℕ = c.loop-count.operands in
     let f : Folding work xs p ys c.loop-count.left c.loop-count.count = c.loop-count.invariant in
-    let at : ℕ = c.next-1.given.0.0 in
-    let q : ℕ = c.next-1.given.0.1.0 in
-    let next : next_of work c.loop-count.left (take c.loop-count.count ys) ≡ Drop at q = sym c.next_rule-next.ensures ∙ c.next-1.given.1 in
+    let at : ℕ = c.in-Drop.at in
+    let q : ℕ = c.in-Drop.program in
+    let next : next_of work c.loop-count.left (take c.loop-count.count ys) ≡ Drop at q = sym c.next_rule-next.ensures ∙ c.in-Drop.is in
     folding_drop f c.loop-count-test.true at q c.drop_at.new.operands next c.drop_at.auto.operands c.drop_at.ensures
 
 pub returns-then-count-eq0 : goal.returns-then-count-eq0

@@ -21,8 +21,8 @@ pub child_count-at-requires : goal.child_count-at-requires
 child_count-at-requires c =
     let k : ℕ = c.loop-k.k in
     record {
-      work_per_node_in_bounds = (rw c.listed_at.ensures (c.requires.rows.reads.row k c.loop-k-test.true, c.requires.rows.few k c.loop-k-test.true)).0;
-      bound = (rw c.listed_at.ensures (c.requires.rows.reads.row k c.loop-k-test.true, c.requires.rows.few k c.loop-k-test.true)).1;
+      work_per_node_in_bounds = rw c.listed_at.ensures (c.requires.rows.reads.row k c.loop-k-test.true);
+      bound = rw c.listed_at.ensures (c.requires.rows.few k c.loop-k-test.true);
     }
 
 pub overflow_add-at : goal.overflow_add-at

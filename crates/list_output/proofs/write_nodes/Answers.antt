@@ -26,19 +26,19 @@ write_node-requires c =
     let w : List ℕ = c.args.work.now in
     let k : ℕ = c.loop-k.k in
     record {
-      work_per_node_in_bounds = (rw c.listed_at-entry.ensures (c.requires.rows.reads.row k c.loop-k-test.true, (c.requires.rows.known k c.loop-k-test.true, (c.requires.rows.few k c.loop-k-test.true, (omega (arith, c.loop-k.invariant.1, size_within w k c.args.count c.loop-k-test.true, c.requires.count_bound), omega (arith, c.loop-k-test.true, c.loop-k.invariant.2, c.requires.words_per_node_in_bounds)))))).0;
-      bound = (rw c.listed_at-entry.ensures (c.requires.rows.reads.row k c.loop-k-test.true, (c.requires.rows.known k c.loop-k-test.true, (c.requires.rows.few k c.loop-k-test.true, (omega (arith, c.loop-k.invariant.1, size_within w k c.args.count c.loop-k-test.true, c.requires.count_bound), omega (arith, c.loop-k-test.true, c.loop-k.invariant.2, c.requires.words_per_node_in_bounds)))))).1.0;
-      bound_2 = (rw c.listed_at-entry.ensures (c.requires.rows.reads.row k c.loop-k-test.true, (c.requires.rows.known k c.loop-k-test.true, (c.requires.rows.few k c.loop-k-test.true, (omega (arith, c.loop-k.invariant.1, size_within w k c.args.count c.loop-k-test.true, c.requires.count_bound), omega (arith, c.loop-k-test.true, c.loop-k.invariant.2, c.requires.words_per_node_in_bounds)))))).1.1.0;
-      at_le_most_pool = (rw c.listed_at-entry.ensures (c.requires.rows.reads.row k c.loop-k-test.true, (c.requires.rows.known k c.loop-k-test.true, (c.requires.rows.few k c.loop-k-test.true, (omega (arith, c.loop-k.invariant.1, size_within w k c.args.count c.loop-k-test.true, c.requires.count_bound), omega (arith, c.loop-k-test.true, c.loop-k.invariant.2, c.requires.words_per_node_in_bounds)))))).1.1.1.0;
-      words_per_node_in_bounds = (rw c.listed_at-entry.ensures (c.requires.rows.reads.row k c.loop-k-test.true, (c.requires.rows.known k c.loop-k-test.true, (c.requires.rows.few k c.loop-k-test.true, (omega (arith, c.loop-k.invariant.1, size_within w k c.args.count c.loop-k-test.true, c.requires.count_bound), omega (arith, c.loop-k-test.true, c.loop-k.invariant.2, c.requires.words_per_node_in_bounds)))))).1.1.1.1;
+      work_per_node_in_bounds = rw c.listed_at-entry.ensures (c.requires.rows.reads.row k c.loop-k-test.true);
+      bound = rw c.listed_at-entry.ensures (c.requires.rows.known k c.loop-k-test.true);
+      bound_2 = rw c.listed_at-entry.ensures (c.requires.rows.few k c.loop-k-test.true);
+      at_le_most_pool = rw c.listed_at-entry.ensures (omega (arith, c.loop-k.invariant.1, size_within w k c.args.count c.loop-k-test.true, c.requires.count_bound));
+      words_per_node_in_bounds = rw c.listed_at-entry.ensures (omega (arith, c.loop-k-test.true, c.loop-k.invariant.2, c.requires.words_per_node_in_bounds));
     }
 
 pub child_count-at-requires : goal.child_count-at-requires
 child_count-at-requires c =
     let k : ℕ = c.loop-k.k in
     record {
-      work_per_node_in_bounds = (rw c.listed_at-entry.ensures (c.requires.rows.reads.row k c.loop-k-test.true, c.requires.rows.few k c.loop-k-test.true)).0;
-      bound = (rw c.listed_at-entry.ensures (c.requires.rows.reads.row k c.loop-k-test.true, c.requires.rows.few k c.loop-k-test.true)).1;
+      work_per_node_in_bounds = rw c.listed_at-entry.ensures (c.requires.rows.reads.row k c.loop-k-test.true);
+      bound = rw c.listed_at-entry.ensures (c.requires.rows.few k c.loop-k-test.true);
     }
 
 pub overflow_add-at : goal.overflow_add-at

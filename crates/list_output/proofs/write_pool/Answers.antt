@@ -30,8 +30,8 @@ write_part-requires c =
     let w : List ℕ = c.args.work.now in
     let k : ℕ = c.loop-k.k in
     record {
-      numbers = (rw c.listed_at-entry.ensures (listing_numbers c.requires.listing c.requires.count_le_most_nodes k c.loop-k-test.true, omega (arith, c.loop-k.invariant.1, c.loop-k.invariant.2, size_within w k c.args.count c.loop-k-test.true, listing_size c.requires.listing, c.requires.pool_in_bounds))).0;
-      in_bounds = (rw c.listed_at-entry.ensures (listing_numbers c.requires.listing c.requires.count_le_most_nodes k c.loop-k-test.true, omega (arith, c.loop-k.invariant.1, c.loop-k.invariant.2, size_within w k c.args.count c.loop-k-test.true, listing_size c.requires.listing, c.requires.pool_in_bounds))).1;
+      numbers = rw c.listed_at-entry.ensures (listing_numbers c.requires.listing c.requires.count_le_most_nodes k c.loop-k-test.true);
+      in_bounds = rw c.listed_at-entry.ensures (omega (arith, c.loop-k.invariant.1, c.loop-k.invariant.2, size_within w k c.args.count c.loop-k-test.true, listing_size c.requires.listing, c.requires.pool_in_bounds));
     }
 
 pub child_count-at-requires : goal.child_count-at-requires
@@ -40,8 +40,8 @@ child_count-at-requires c =
     let rows : Rows w c.args.count = listing_rows c.requires.listing in
     let k : ℕ = c.loop-k.k in
     record {
-      work_per_node_in_bounds = (rw c.listed_at-entry.ensures (rows.reads.row k c.loop-k-test.true, rows.few k c.loop-k-test.true)).0;
-      bound = (rw c.listed_at-entry.ensures (rows.reads.row k c.loop-k-test.true, rows.few k c.loop-k-test.true)).1;
+      work_per_node_in_bounds = rw c.listed_at-entry.ensures (rows.reads.row k c.loop-k-test.true);
+      bound = rw c.listed_at-entry.ensures (rows.few k c.loop-k-test.true);
     }
 
 pub overflow_add-at : goal.overflow_add-at

@@ -41,8 +41,8 @@ answer_at-requires c =
     let filled : Filled ns ps α base (with_pairs ns ps α base work) (node_count ns) = passed ns ps α base work ready in
     let last : base + c.node_count.result - 1 ≡ base + (node_count ns - 1) = omega (arith, c.node_count.ensures, some) in
     record {
-      row_in_bounds = (rw left (root_there ns ps α base (with_pairs ns ps α base work) filled (base + c.node_count.result - 1) last, root_wide ns ps α base (with_pairs ns ps α base work) filled (base + c.node_count.result - 1) last)).0;
-      wide = (rw left (root_there ns ps α base (with_pairs ns ps α base work) filled (base + c.node_count.result - 1) last, root_wide ns ps α base (with_pairs ns ps α base work) filled (base + c.node_count.result - 1) last)).1;
+      row_in_bounds = rw left (root_there ns ps α base (with_pairs ns ps α base work) filled (base + c.node_count.result - 1) last);
+      wide = rw left (root_wide ns ps α base (with_pairs ns ps α base work) filled (base + c.node_count.result - 1) last);
     }
 
 pub returns : goal.returns

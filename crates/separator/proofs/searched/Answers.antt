@@ -21,9 +21,9 @@ use Rattle.separator.proofs.searched.Goals as goal
 pub lowest_crossing-index-requires : goal.lowest_crossing-index-requires
 lowest_crossing-index-requires c = 
     record {
-      searchable = (c.requires).0;
-      prepared = (c.requires).1.0;
-      drivable = (c.requires).1.1;
+      searchable = c.requires.searchable;
+      prepared = c.requires.prepared;
+      drivable = c.requires.drivable;
     }
 
 pub power_of_two-requires : goal.power_of_two-requires

@@ -46,8 +46,8 @@ mark_reached-requires c =
     let laid : Laid ns ps = layout_laid ns ps done in
     record {
       laid = laid;
-      nodes_bound = (c.requires).0;
-      nodes_in_bounds = (c.requires).1;
+      nodes_bound = c.requires.nodes_bound;
+      nodes_in_bounds = c.requires.nodes_in_bounds;
     }
 
 pub lowest_fault-requires : goal.lowest_fault-requires

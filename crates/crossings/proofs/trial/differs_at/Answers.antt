@@ -13,9 +13,9 @@ use Rattle.crossings.proofs.trial.differs_at.Goals as goal
 pub answer_under-answer-requires : goal.answer_under-answer-requires
 answer_under-answer-requires c = 
     record {
-      variables_value = (c.requires).0;
-      prepared = (c.requires).1.0;
-      drivable = (c.requires).1.1;
+      variables_value = c.requires.variables_value;
+      prepared = c.requires.prepared;
+      drivable = c.requires.drivable;
     }
 
 pub returns : goal.returns
