@@ -29,8 +29,8 @@ write_node-requires c =
       work_per_node_in_bounds = rw c.listed_at-entry.ensures (c.requires.rows.reads.row k c.loop-k-test.true);
       bound = rw c.listed_at-entry.ensures (c.requires.rows.known k c.loop-k-test.true);
       bound_2 = rw c.listed_at-entry.ensures (c.requires.rows.few k c.loop-k-test.true);
-      at_le_most_pool = rw c.listed_at-entry.ensures (omega (arith, c.loop-k.invariant.1, size_within w k c.args.count c.loop-k-test.true, c.requires.count_bound));
-      words_per_node_in_bounds = rw c.listed_at-entry.ensures (omega (arith, c.loop-k-test.true, c.loop-k.invariant.2, c.requires.words_per_node_in_bounds));
+      at_le_most_pool = omega (arith, c.loop-k.invariant.1, size_within w k c.args.count c.loop-k-test.true, c.requires.count_bound);
+      words_per_node_in_bounds = omega (arith, c.loop-k-test.true, c.loop-k.invariant.2, c.requires.words_per_node_in_bounds);
     }
 
 pub child_count-at-requires : goal.child_count-at-requires
