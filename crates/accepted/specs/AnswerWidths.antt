@@ -13,9 +13,9 @@ use Rattle.meaning.specs.Rules.Reach.{mark_of}
 use Rattle.meaning.specs.Rules.Evaluable.{Shape, bit, program, bus, width_of, is_bit, is_logic, same_shape, alike, nth_shape, shape_step, shape, fits}
 use Rattle.meaning.specs.Rules.Answers.{Assignment, answer, step, nth, blank, bus_of, operands, value_of}
 use Rattle.meaning.specs.Claims.Column.{Sound}
-use Rattle.meaning.specs.Laws.KindLaws.{word_of, kind_word}
-use Rattle.meaning.specs.Laws.BoolLaws.{true_false, and_left, and_right}
-use Rattle.meaning.specs.Laws.TestLaws.{every_nth}
+use Rattle.meaning.proofs.Laws.KindLaws.{word_of, kind_word}
+use Rattle.meaning.proofs.Laws.BoolLaws.{true_false, and_left, and_right}
+use Rattle.meaning.proofs.Laws.TestLaws.{every_nth}
 use Rattle.operators.specs.Widths.{Within, and_within, xor_within, not_within, nor_within, mux_within, row_within, driven_within, bus_within}
 use Rattle.accepted.specs.Nodes.{answers_at, shapes_at, shapes_length, answers_length, nth_shape_lem, nth_answer, tree_is, answer_is, arity, constant_bit, child_below, child_marked, fitting}
 

@@ -14,9 +14,9 @@ use Rattle.meaning.specs.Rules.Verification.{wrong, is_program}
 use Rattle.meaning.specs.Rules.Evaluable.{Shape, is_logic, shape, shapes, nth_shape, fits, fits_tree, is_root}
 use Rattle.meaning.specs.Rules.Answers.{Assignment, answer, answers, step, nth}
 use Rattle.meaning.specs.Claims.Column.{WellLaid, Sound}
-use Rattle.meaning.specs.Laws.BoolLaws.{true_false, and_left, and_right, not_is_false, or_left_false}
-use Rattle.meaning.specs.Laws.TreeLaws.{tree_at}
-use Rattle.meaning.specs.Laws.ReachLaws.{reach_child}
+use Rattle.meaning.proofs.Laws.BoolLaws.{true_false, and_left, and_right, not_is_false, or_left_false}
+use Rattle.meaning.proofs.Laws.TreeLaws.{tree_at}
+use Rattle.meaning.proofs.Laws.ReachLaws.{reach_child}
 use Rattle.lists.specs.Scan.{some_at}
 use Rattle.lists.specs.Laid.{part_fits, children_below_lem}
 

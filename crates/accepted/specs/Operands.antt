@@ -15,10 +15,10 @@ use Rattle.meaning.specs.Rules.Verification.{is_program, lut_wrong}
 use Rattle.meaning.specs.Rules.Evaluable.{Shape, bit, width_of, is_bit, is_logic, alike, nth_shape, shape, fits}
 use Rattle.meaning.specs.Rules.Answers.{Assignment, answer, nth, value_of, mux_of}
 use Rattle.meaning.specs.Claims.Column.{Sound}
-use Rattle.meaning.specs.Laws.BoolLaws.{true_false, and_left, and_right, not_is_false, or_left_false, or_right_false}
-use Rattle.meaning.specs.Laws.KindLaws.{register_kind}
-use Rattle.meaning.specs.Laws.RootLaws.{forest_length}
-use Rattle.meaning.specs.Laws.TestLaws.{every_nth}
+use Rattle.meaning.proofs.Laws.BoolLaws.{true_false, and_left, and_right, not_is_false, or_left_false, or_right_false}
+use Rattle.meaning.proofs.Laws.KindLaws.{register_kind}
+use Rattle.meaning.proofs.Laws.RootLaws.{forest_length}
+use Rattle.meaning.proofs.Laws.TestLaws.{every_nth}
 use Rattle.lists.specs.Cases.{past}
 use Rattle.operators.specs.Widths.{Held, Alike, held}
 use Rattle.accepted.specs.Nodes.{Logic, child_trees, answers_at, shapes_at, shapes_length, answers_length, nth_shape_lem, nth_answer, tree_is, answer_is, arity, child_below, child_marked, logic_kind, not_wrong, fitting}

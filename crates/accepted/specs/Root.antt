@@ -7,8 +7,8 @@ use Rattle.meaning.specs.Rules.Reach.{mark_of}
 use Rattle.meaning.specs.Rules.Verification.{is_program}
 use Rattle.meaning.specs.Rules.Evaluable.{Shape, is_bit, is_logic, alike, same_shape, nth_shape, shape_step, shape, fits, fits_tree, is_root}
 use Rattle.meaning.specs.Claims.Column.{Sound}
-use Rattle.meaning.specs.Laws.BoolLaws.{true_false, and_left, and_right, or_right_false}
-use Rattle.meaning.specs.Laws.ReachLaws.{reach_root}
+use Rattle.meaning.proofs.Laws.BoolLaws.{true_false, and_left, and_right, or_right_false}
+use Rattle.meaning.proofs.Laws.ReachLaws.{reach_root}
 use Rattle.lists.specs.Cases.{range}
 use Rattle.accepted.specs.Nodes.{Logic, shapes_at, tree_is, fitting}
 

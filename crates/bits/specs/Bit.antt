@@ -8,7 +8,7 @@ use Rattle.std.proofs.Math.Pow.{split}
 use Rattle.std.specs.Int.Bits.{bit_and, bit_or, bit_xor, differ, and_step, or_step, xor_step, and_lt}
 use Rattle.std.proofs.lemmas.Nat.{and_shr, or_shr, xor_shr, or_lt}
 use Rattle.meaning.specs.Rules.Words.{bit_at, ones}
-use Rattle.meaning.specs.Laws.WordLaws.{bit_mod, bit_above, bit_low, bit_high}
+use Rattle.meaning.proofs.Laws.WordLaws.{bit_mod, bit_above, bit_low, bit_high}
 
 -- ---- and, or, xor
 

@@ -5,8 +5,8 @@ use borrow.Author.Tests.{eq-eqb, ne_eqb}
 use Rattle.meaning.specs.Rules.Trees.{node_count}
 use Rattle.meaning.specs.Rules.Search.{lowest}
 use Rattle.meaning.specs.Rules.Separation.{outside, variables_below}
-use Rattle.meaning.specs.Laws.BoolLaws.{true_false}
-use Rattle.meaning.specs.Laws.SearchLaws.{NoneBelow, lowest_is, lowest_none}
+use Rattle.meaning.proofs.Laws.BoolLaws.{true_false}
+use Rattle.meaning.proofs.Laws.SearchLaws.{NoneBelow, lowest_is, lowest_none}
 
 module _ (ns : List ℕ) (n : ℕ) where
   pub some_outside : (i : ℕ) → i < node_count ns → outside ns n i ≡ true → variables_below ns n ≡ false

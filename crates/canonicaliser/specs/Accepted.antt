@@ -6,8 +6,8 @@ use Rattle.meaning.specs.Rules.Trees.{node_count}
 use Rattle.meaning.specs.Rules.Evaluable.{sound}
 use Rattle.meaning.specs.Rules.Canonical.{gates, canonical_nodes, canonical_pool}
 use Rattle.meaning.specs.Rules.Calls.{fits_lists}
-use Rattle.meaning.specs.Laws.BoolLaws.{and_left, and_right}
-use Rattle.meaning.specs.Laws.RefusalLaws.{then_first}
+use Rattle.meaning.proofs.Laws.BoolLaws.{and_left, and_right}
+use Rattle.meaning.proofs.Laws.RefusalLaws.{then_first}
 use Rattle.verifier.specs.Left.{sound_work}
 use Rattle.search.specs.Search.{Marked, Shaped}
 use Rattle.rows.specs.Rows.{Prepared}

@@ -12,7 +12,7 @@ use Rattle.meaning.specs.Rules.Layout.{work_for}
 use Rattle.meaning.specs.Rules.Reach.{reachable}
 use Rattle.meaning.specs.Rules.Canonical.{canonical_nodes, canonical_pool}
 use Rattle.meaning.specs.Rules.Calls.{Judged, judged, separate, Canonicalised, canonicalised, canonical_refusal, canonical, canonicalise}
-use Rattle.meaning.specs.Claims.Demands.{demand_3_canonical}
+use Rattle.meaning.proofs.Claims.Demands.{demand_3_canonical}
 
 -- the canonicaliser's answer c, which is no refusal, and what it left of the work space and in its outputs
 module _ (ns ps work out_nodes out_pool : List ℕ) (c : Canonical) (left nodes pool : List ℕ)

@@ -15,10 +15,10 @@ use Rattle.meaning.specs.Rules.Evaluable.{sound}
 use Rattle.meaning.specs.Rules.Canonical.{gates, canonical_nodes, canonical_pool}
 use Rattle.meaning.specs.Rules.Calls.{Canonicalised, fits_lists, canonical_refusal, canonicalised, canonical, canonicalise}
 use Rattle.meaning.specs.Claims.Terms.{Says}
-use Rattle.meaning.specs.Laws.BoolLaws.{and_left, and_right}
-use Rattle.meaning.specs.Laws.RefusalLaws.{refused_output, work_cleared, then_rest}
-use Rattle.meaning.specs.Laws.NumberLaws.{require_says, require_passed, then_go, then_stop, then_joined, then_says, never}
-use Rattle.meaning.specs.Laws.ColumnLaws.{sound_says, gates_says}
+use Rattle.meaning.proofs.Laws.BoolLaws.{and_left, and_right}
+use Rattle.meaning.proofs.Laws.RefusalLaws.{refused_output, work_cleared, then_rest}
+use Rattle.meaning.proofs.Laws.NumberLaws.{require_says, require_passed, then_go, then_stop, then_joined, then_says, never}
+use Rattle.meaning.proofs.Laws.ColumnLaws.{sound_says, gates_says}
 use Rattle.sizes.specs.Lent.{lent_row, lent_keeps}
 
 -- a refusal: "other fields zero"

@@ -10,8 +10,8 @@ use Rattle.std.proofs.Math.Seq.{drop-cons}
 use Rattle.std.proofs.Math.Dec.{ltb, eqb}
 use Rattle.meaning.specs.Rules.Trees.{Tree, same, same_all, forest, node_count, kind_at, datum_at, children_at, tree_of}
 use Rattle.meaning.specs.Rules.Reach.{mark_of}
-use Rattle.meaning.specs.Laws.ReachLaws.{reach_child}
-use Rattle.meaning.specs.Laws.TreeLaws.{tree_at}
+use Rattle.meaning.proofs.Laws.ReachLaws.{reach_child}
+use Rattle.meaning.proofs.Laws.TreeLaws.{tree_at}
 use Rattle.lists.specs.Scan.{some_at}
 use Rattle.lists.specs.Laid.{children_below_lem}
 use Rattle.columns.specs.Columns.{place, cell, class_column}

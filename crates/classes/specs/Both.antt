@@ -7,7 +7,7 @@ use Rattle.std.proofs.Math.Dec.{eqb}
 use Rattle.meaning.specs.Rules.Limits.{work_per_node}
 use Rattle.meaning.specs.Rules.Trees.{same, node_count, tree_of, root_of}
 use Rattle.meaning.specs.Rules.Reach.{mark_of}
-use Rattle.meaning.specs.Laws.ReachLaws.{reach_root}
+use Rattle.meaning.proofs.Laws.ReachLaws.{reach_root}
 use Rattle.columns.specs.Columns.{cell, class_column, with_column}
 use Rattle.columns.specs.ColumnLaws.{with_length, with_other_column, with_row_before, with_column_lem}
 use Rattle.classes.specs.Classes.{class_of, class_at, class_same, class_marked}

@@ -8,9 +8,9 @@ use Rattle.std.proofs.Math.Decide.{dec_lt}
 use Rattle.meaning.specs.Rules.Trees.{Tree, same, node_count, tree_of}
 use Rattle.meaning.specs.Rules.Reach.{mark_of}
 use Rattle.meaning.specs.Rules.Search.{lowest}
-use Rattle.meaning.specs.Laws.BoolLaws.{true_false, and_both, and_right}
-use Rattle.meaning.specs.Laws.SearchLaws.{lowest_is, lowest_only}
-use Rattle.meaning.specs.Laws.TreeLaws.{same_eq, eq_same, same_refl}
+use Rattle.meaning.proofs.Laws.BoolLaws.{true_false, and_both, and_right}
+use Rattle.meaning.proofs.Laws.SearchLaws.{lowest_is, lowest_only}
+use Rattle.meaning.proofs.Laws.TreeLaws.{same_eq, eq_same, same_refl}
 
 -- node i is the root or below it, and has the tree t
 unfoldable pub has_tree : List ℕ → List ℕ → Tree → ℕ → Bool

@@ -8,7 +8,7 @@ use Rattle.meaning.specs.Rules.Trees.{root_of}
 use Rattle.meaning.specs.Rules.Assignments.{inputs}
 use Rattle.meaning.specs.Rules.Calls.{Compared, compared, compare}
 use Rattle.meaning.specs.Claims.Terms.{EverywhereEqual, Decided}
-use Rattle.meaning.specs.Claims.Demands.{demand_2_equiv, demand_2_thirty, demand_2_otherwise}
+use Rattle.meaning.proofs.Claims.Demands.{demand_2_equiv, demand_2_thirty, demand_2_otherwise}
 
 -- a call's answer and what it left of the work space, by the contract; the call was not refused
 module _ (ns ps ms qs work left : List ℕ) (c : Comparison) (meets : compared c left ≡ compare ns ps ms qs work) (done : c.refusal.number ≡ 0) where

@@ -16,9 +16,9 @@ use Rattle.meaning.specs.Rules.Assignments.{inputs}
 use Rattle.meaning.specs.Rules.Comparison.{few_inputs, equivalent, compare_trees, comparison_refused}
 use Rattle.meaning.specs.Rules.Calls.{compare_refusal, comparison, compared, compare}
 use Rattle.meaning.specs.Claims.Terms.{Says}
-use Rattle.meaning.specs.Laws.RefusalLaws.{require_done, work_cleared}
-use Rattle.meaning.specs.Laws.NumberLaws.{then_go, then_stop, then_joined, then_says, never}
-use Rattle.meaning.specs.Laws.ColumnLaws.{sound_says, few_says}
+use Rattle.meaning.proofs.Laws.RefusalLaws.{require_done, work_cleared}
+use Rattle.meaning.proofs.Laws.NumberLaws.{then_go, then_stop, then_joined, then_says, never}
+use Rattle.meaning.proofs.Laws.ColumnLaws.{sound_says, few_says}
 use Rattle.sizes.specs.Lent.{lent_both_row, both_keeps}
 use Rattle.comparer.specs.Searched.{searched, same_trees, other_trees}
 

@@ -11,7 +11,7 @@ use Rattle.meaning.specs.Rules.Answers.{answer}
 use Rattle.meaning.specs.Rules.Search.{lowest}
 use Rattle.meaning.specs.Rules.Assignments.{inputs, drive}
 use Rattle.meaning.specs.Rules.Comparison.{agree, decides, assignments, deciding_index, equivalent, decided_at, compare_trees}
-use Rattle.meaning.specs.Laws.SearchLaws.{NoneBelow, lowest_here, lowest_none}
+use Rattle.meaning.proofs.Laws.SearchLaws.{NoneBelow, lowest_here, lowest_none}
 
 -- the answers of both trees at assignment i
 abbrev pub first_answer : Tree → Tree → ℕ → Answer

@@ -17,7 +17,7 @@ use Rattle.meaning.specs.Rules.Assignments.{occurs, drive, upto}
 use Rattle.meaning.specs.Rules.Comparison.{same_answer}
 use Rattle.meaning.specs.Rules.Separation.{is_marked, run_cleared, crosses}
 use Rattle.meaning.specs.Claims.Terms.{as_run, as_cleared}
-use Rattle.meaning.specs.Laws.WordLaws.{bit_lt, bit_above, bit_mod}
+use Rattle.meaning.proofs.Laws.WordLaws.{bit_lt, bit_above, bit_mod}
 use Rattle.bits.specs.Bit.{bit_zero, bit_and_lem, bit_or_lem, bit_ext}
 use Rattle.subsets.specs.Among.{Among, among_le, among_bit, bits_among, cut_among}
 use Rattle.input_bits.specs.Seen.{to_bit, IsMask}

@@ -5,7 +5,7 @@ use Rattle.std.proofs.Math.Bool.{or-true}
 use Rattle.meaning.specs.declared.Answer.{Answer}
 use Rattle.meaning.specs.Rules.Kinds.{Kind, Const, Program, DC, Var, Nor, Mux, And, Xor, Not, Lut, Bus, Reg, Arg, Cycle, Unknown, kind_of, variable_word}
 use Rattle.meaning.specs.Rules.Trees.{Tree, Forest, node, none, ◌◂◌}
-use Rattle.meaning.specs.Laws.KindLaws.{word_of, kind_word}
+use Rattle.meaning.proofs.Laws.KindLaws.{word_of, kind_word}
 use Rattle.meaning.specs.Rules.Answers.{Assignment, driven, step, answer, answers}
 use Rattle.meaning.specs.Rules.Assignments.{occurs, occurs_in}
 

@@ -8,9 +8,9 @@ use Rattle.std.specs.Int.Bits.{bit_and}
 use Rattle.meaning.specs.Rules.Words.{bit_at, ones}
 use Rattle.meaning.specs.Rules.Assignments.{drive, upto, is_in}
 use Rattle.meaning.specs.Rules.Separation.{is_marked, run_cleared}
-use Rattle.meaning.specs.Laws.BoolLaws.{true_false}
-use Rattle.meaning.specs.Laws.WordLaws.{bit_above}
-use Rattle.meaning.specs.Laws.AssignmentLaws.{drive_other, in_upto, upto_length}
+use Rattle.meaning.proofs.Laws.BoolLaws.{true_false}
+use Rattle.meaning.proofs.Laws.WordLaws.{bit_above}
+use Rattle.meaning.proofs.Laws.AssignmentLaws.{drive_other, in_upto, upto_length}
 use Rattle.bits.specs.Bit.{bit_and_lem, bit_not}
 
 -- ---- variables in front of others, and behind them

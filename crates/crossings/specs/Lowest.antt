@@ -11,9 +11,9 @@ use Rattle.meaning.specs.Rules.Search.{lowest}
 use Rattle.meaning.specs.Rules.Assignments.{drive, upto}
 use Rattle.meaning.specs.Rules.Comparison.{same_answer}
 use Rattle.meaning.specs.Rules.Separation.{crosses}
-use Rattle.meaning.specs.Laws.BoolLaws.{true_false, not_true}
-use Rattle.meaning.specs.Laws.SearchLaws.{lowest_only}
-use Rattle.meaning.specs.Laws.AssignmentLaws.{same_answer_refl}
+use Rattle.meaning.proofs.Laws.BoolLaws.{true_false, not_true}
+use Rattle.meaning.proofs.Laws.SearchLaws.{lowest_only}
+use Rattle.meaning.proofs.Laws.AssignmentLaws.{same_answer_refl}
 use Rattle.subsets.specs.Among.{Among, among_le}
 use Rattle.subsets.specs.Next.{IsNext}
 use Rattle.crossings.specs.Blocks.{Lower, Blocks}

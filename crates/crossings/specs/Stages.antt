@@ -11,9 +11,9 @@ use Rattle.meaning.specs.Rules.Search.{lowest}
 use Rattle.meaning.specs.Rules.Comparison.{same_answer}
 use Rattle.meaning.specs.Rules.Separation.{is_marked, crosses, crossing_index}
 use Rattle.meaning.specs.Claims.Terms.{as_run}
-use Rattle.meaning.specs.Laws.BoolLaws.{true_false, not_true}
-use Rattle.meaning.specs.Laws.SearchLaws.{lowest_is, lowest_only, lowest_none}
-use Rattle.meaning.specs.Laws.AssignmentLaws.{same_answer_refl}
+use Rattle.meaning.proofs.Laws.BoolLaws.{true_false, not_true}
+use Rattle.meaning.proofs.Laws.SearchLaws.{lowest_is, lowest_only, lowest_none}
+use Rattle.meaning.proofs.Laws.AssignmentLaws.{same_answer_refl}
 use Rattle.bits.specs.Bit.{bit_zero}
 use Rattle.input_bits.specs.Seen.{IsMask}
 use Rattle.crossings.specs.Driven.{cleared_is}

@@ -10,8 +10,8 @@ use Rattle.meaning.specs.Rules.Lent.{written, output_after}
 use Rattle.meaning.specs.Rules.Pairs.{pairs}
 use Rattle.meaning.specs.Rules.Refusals.{is_done, ◌then◌}
 use Rattle.meaning.specs.Rules.Calls.{assigned, fits_pairs}
-use Rattle.meaning.specs.Laws.RefusalLaws.{then_first, then_rest}
-use Rattle.meaning.specs.Laws.ColumnLaws.{pairs_passed}
+use Rattle.meaning.proofs.Laws.RefusalLaws.{then_first, then_rest}
+use Rattle.meaning.proofs.Laws.ColumnLaws.{pairs_passed}
 use Rattle.verifier.specs.Left.{sound_work}
 use Rattle.rows.specs.Rows.{Prepared, Filled}
 use Rattle.pass.specs.Prepared.{sound_prepares}

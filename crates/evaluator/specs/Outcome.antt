@@ -16,9 +16,9 @@ use Rattle.meaning.specs.Rules.Evaluable.{sound}
 use Rattle.meaning.specs.Rules.Pairs.{pairs}
 use Rattle.meaning.specs.Rules.Calls.{assigned, fits_pairs, evaluate_refusal, evaluated, evaluation, evaluate}
 use Rattle.meaning.specs.Claims.Terms.{Says}
-use Rattle.meaning.specs.Laws.RefusalLaws.{refused_output, work_cleared}
-use Rattle.meaning.specs.Laws.NumberLaws.{then_go, then_stop, then_joined, then_says, never}
-use Rattle.meaning.specs.Laws.ColumnLaws.{sound_says, assigned_says, pairs_says}
+use Rattle.meaning.proofs.Laws.RefusalLaws.{refused_output, work_cleared}
+use Rattle.meaning.proofs.Laws.NumberLaws.{then_go, then_stop, then_joined, then_says, never}
+use Rattle.meaning.proofs.Laws.ColumnLaws.{sound_says, assigned_says, pairs_says}
 use Rattle.sizes.specs.Lent.{lent_row, lent_keeps}
 
 -- a refusal, with "an answer width 0 and value 0"

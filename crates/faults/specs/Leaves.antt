@@ -5,8 +5,8 @@ use Rattle.std.proofs.Common.{sym, ap, ap₂, subst, ◌∙◌, arith, ltb-true,
 use Rattle.std.proofs.Math.Bool.{or-true}
 use Rattle.std.proofs.Math.Decide.{dec_lt}
 use Rattle.std.proofs.lemmas.Bool.{lt-leb}
-use Rattle.meaning.specs.Laws.BoolLaws.{and_left, and_right}
-use Rattle.meaning.specs.Laws.TreeLaws.{tree_at}
+use Rattle.meaning.proofs.Laws.BoolLaws.{and_left, and_right}
+use Rattle.meaning.proofs.Laws.TreeLaws.{tree_at}
 use Rattle.meaning.specs.Rules.Limits.{most_operands}
 use Rattle.meaning.specs.Rules.Numbers.{not_verified}
 use Rattle.meaning.specs.Rules.Kinds.{Kind, Const, Program, DC, Var, Nor, Mux, And, Xor, Not, Lut, Bus, Reg, Arg, Cycle, Unknown, kind_of, program_word, bus_word}

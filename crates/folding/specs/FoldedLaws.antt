@@ -14,9 +14,9 @@ use Rattle.meaning.specs.Rules.Trees.{Tree, datum, nth_tree}
 use Rattle.meaning.specs.Rules.Folding.{lut, is_constant, without, fold, fold_one, constant}
 use Rattle.meaning.specs.Rules.Search.{lowest}
 use Rattle.meaning.specs.Rules.Tables.{cofactor, ignores}
-use Rattle.meaning.specs.Laws.BoolLaws.{true_false}
-use Rattle.meaning.specs.Laws.SearchLaws.{lowest_is, lowest_only}
-use Rattle.meaning.specs.Laws.TableLaws.{but_one}
+use Rattle.meaning.proofs.Laws.BoolLaws.{true_false}
+use Rattle.meaning.proofs.Laws.SearchLaws.{lowest_is, lowest_only}
+use Rattle.meaning.specs.Rules.Tables.{but_one}
 use Rattle.columns.specs.Columns.{cell, datum_column}
 use Rattle.folding.specs.declared.Folded.TheVariants.{Constant, Operand, Lut}
 use Rattle.folding.specs.declared.dropping.Next.{Next}

@@ -3,7 +3,7 @@ use Rattle.std.specs.Prelude.{ℕ, suc, ◌+◌, ◌-◌, ◌≤◌, ◌<◌, �
 use Rattle.std.proofs.Common.{sym, ap, ◌∙◌, arith, length-append, length-take, length-drop, length-set, get_or-set_same, get_or-set_other, get_or-take, get_or-drop, get_or-append-add, ext_get_or}
 use Rattle.std.proofs.Math.Decide.{dec_lt, ℕ_discrete}
 use Rattle.std.proofs.Math.ListN.{get_or-append}
-use Rattle.meaning.specs.Laws.TableLaws.{but_one}
+use Rattle.meaning.specs.Rules.Tables.{but_one}
 
 -- of the list xs, those behind place `at` are moved down, up to place j
 pub record Moved (xs : List ℕ) (at j : ℕ) (ys : List ℕ) : Type 0 where

@@ -4,7 +4,7 @@ ghost use Rattle.std.specs.Prelude.{◌≡◌, ◌+◌, ◌-◌, ◌≤◌, ◌<
 ghost use Rattle.meaning.specs.Rules.Limits.{most_operands};
 ghost use Rattle.meaning.specs.Rules.Search.{lowest};
 ghost use Rattle.meaning.specs.Rules.Tables as meant;
-ghost use Rattle.meaning.specs.Laws.TableLaws.{but_one};
+ghost use Rattle.meaning.specs.Rules.Tables.{but_one};
 ghost use Rattle.folding.specs.Folded.{Each, Readable, constant_at, ignored_at, next_of};
 
 use form_rows::{CONSTANT, datum_in, kind_in};

@@ -17,7 +17,7 @@ use Rattle.meaning.specs.Rules.Trees.{Tree, Forest, node, none, ◌◂◌, trees
 use Rattle.meaning.specs.Rules.Reach.{mark_of}
 use Rattle.meaning.specs.Rules.Verification.{is_program, lut_wrong}
 use Rattle.meaning.specs.Rules.Folding.{constant, lut, fold, folded, folded_lut, nf, nf_all, nf_step}
-use Rattle.meaning.specs.Laws.BoolLaws.{and_left, and_right, or_right_false}
+use Rattle.meaning.proofs.Laws.BoolLaws.{and_left, and_right, or_right_false}
 use Rattle.meaning.specs.Claims.Column.{Sound}
 use Rattle.lists.specs.Cases.{range}
 use Rattle.columns.specs.Columns.{cell, home_column, kind_column, datum_column}

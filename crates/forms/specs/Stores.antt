@@ -11,7 +11,7 @@ use Rattle.meaning.specs.Rules.Kinds.{kind_of, may_have, const_word, variable_wo
 use Rattle.meaning.specs.Rules.Trees.{Tree, Forest, node, none, ◌◂◌, forest, forest_of, kind_at, datum_at, children_at, tree_of}
 use Rattle.meaning.specs.Rules.Reach.{mark_of}
 use Rattle.meaning.specs.Rules.Folding.{constant, lut, nf, nf_all, nf_step}
-use Rattle.meaning.specs.Laws.BoolLaws.{true_false}
+use Rattle.meaning.proofs.Laws.BoolLaws.{true_false}
 use Rattle.lists.specs.Cases.{range}
 use Rattle.columns.specs.Columns.{place, cell, home_column, kind_column, datum_column, count_column, operand_column, number_column}
 use Rattle.accepted.specs.Nodes.{child_trees, tree_is, arity, constant_bit, child_below}

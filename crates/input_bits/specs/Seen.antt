@@ -10,8 +10,8 @@ use Rattle.meaning.specs.Rules.Trees.{Tree, node_count, kind_at, first_at, root_
 use Rattle.meaning.specs.Rules.Reach.{mark_of, reachable}
 use Rattle.meaning.specs.Rules.Assignments.{occurs}
 use Rattle.meaning.specs.Claims.Column.{Sound}
-use Rattle.meaning.specs.Laws.BoolLaws.{true_false, or_cases, or_left_false, or_right_false}
-use Rattle.meaning.specs.Laws.WordLaws.{bit_above, bit_low, bit_high}
+use Rattle.meaning.proofs.Laws.BoolLaws.{true_false, or_cases, or_left_false, or_right_false}
+use Rattle.meaning.proofs.Laws.WordLaws.{bit_above, bit_low, bit_high}
 use Rattle.bits.specs.Bit.{bit_zero, bit_or_lem, bit_ext}
 use Rattle.inputs.specs.Inputs.{is_input, input_found, input_none}
 

@@ -9,7 +9,7 @@ use Rattle.meaning.specs.Rules.Limits.{most_inputs}
 use Rattle.meaning.specs.Rules.Words.{bit_at}
 use Rattle.meaning.specs.Rules.Answers.{Assignment, undriven_byte}
 use Rattle.meaning.specs.Rules.Assignments.{given, drive, is_in}
-use Rattle.meaning.specs.Laws.AssignmentLaws.{drive_other}
+use Rattle.meaning.proofs.Laws.AssignmentLaws.{drive_other}
 use Rattle.inputs.specs.Inputs.{AllBelow}
 
 -- "the others are undriven"

@@ -10,9 +10,9 @@ use Rattle.meaning.specs.Rules.Layout.{children_below}
 use Rattle.meaning.specs.Rules.Reach.{mark_of, reachable}
 use Rattle.meaning.specs.Rules.Assignments.{occurs, select, inputs}
 use Rattle.meaning.specs.Claims.Column.{Sound}
-use Rattle.meaning.specs.Laws.BoolLaws.{true_false, and_left, and_right, and_both, not_true}
-use Rattle.meaning.specs.Laws.InputLaws.{IsInput, inputs_reachable}
-use Rattle.meaning.specs.Laws.AssignmentLaws.{in_select}
+use Rattle.meaning.proofs.Laws.BoolLaws.{true_false, and_left, and_right, and_both, not_true}
+use Rattle.meaning.proofs.Laws.InputLaws.{IsInput, inputs_reachable}
+use Rattle.meaning.proofs.Laws.AssignmentLaws.{in_select}
 use Rattle.lists.specs.Scan.{some_at}
 use Rattle.lists.specs.Laid.{children_below_lem}
 

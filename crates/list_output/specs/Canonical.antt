@@ -13,8 +13,8 @@ use Rattle.meaning.specs.Rules.Kinds.{lut_word, has_children}
 use Rattle.meaning.specs.Rules.Trees.{Tree, Forest, node, ◌◂◌, kind_word, datum, children, trees, forest, stump, nth_tree}
 use Rattle.meaning.specs.Rules.Listing.{number_in, child_numbers, node_at, node_words, pool_words, listed_nodes, listed_pool}
 use Rattle.meaning.specs.Rules.Canonical.{canonical_nodes, canonical_pool}
-use Rattle.meaning.specs.Laws.ListingLaws.{numbers_length}
-use Rattle.meaning.specs.Laws.BoolLaws.{true_false}
+use Rattle.meaning.proofs.Laws.ListingLaws.{numbers_length}
+use Rattle.meaning.proofs.Laws.BoolLaws.{true_false}
 use Rattle.columns.specs.Columns.{cell, kind_column, datum_column, count_column, program_column}
 use Rattle.form_rows.specs.From.{from}
 use Rattle.form_rows.specs.Forms.{nf_at, made, program_of, kid_at, kids_in, FormAt}

@@ -3,7 +3,7 @@ use Rattle.std.specs.Prelude.{ℕ, ◌+◌, ◌≡◌, List, [], ◌∷◌, ◌+
 use Rattle.std.proofs.Common.{sym, ap, ◌∙◌, append_assoc, append-nil, add-zero, arith, length-append}
 use Rattle.meaning.specs.Rules.Trees.{Tree, children, trees}
 use Rattle.meaning.specs.Rules.Listing.{child_numbers, node_at, node_words, pool_words}
-use Rattle.meaning.specs.Laws.ListingLaws.{numbers_length}
+use Rattle.meaning.proofs.Laws.ListingLaws.{numbers_length}
 
 module _ (all : List Tree) (t : Tree) where
   pub pool_end : (ts : List Tree) → pool_words all (ts ++ (t ∷ [])) ≡ pool_words all ts ++ child_numbers all t

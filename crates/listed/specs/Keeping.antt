@@ -9,10 +9,10 @@ use Rattle.std.proofs.Math.Decide.{dec_lt}
 use Rattle.meaning.specs.Rules.Trees.{Tree, Forest, node, none, ◌◂◌, same, children, stump, nth_tree}
 use Rattle.meaning.specs.Rules.Refusals.{some}
 use Rattle.meaning.specs.Rules.Listing.{keep, visit, visit_all, number_in}
-use Rattle.meaning.specs.Laws.BoolLaws.{true_false}
-use Rattle.meaning.specs.Laws.SearchLaws.{lowest_is, lowest_only}
-use Rattle.meaning.specs.Laws.TreeLaws.{same_eq, eq_same}
-use Rattle.meaning.specs.Laws.ListingLaws.{Has, AllHas, Ordered, some_has, nth_old, nth_new, one_more, visit_has, visit_ordered}
+use Rattle.meaning.proofs.Laws.BoolLaws.{true_false}
+use Rattle.meaning.proofs.Laws.SearchLaws.{lowest_is, lowest_only}
+use Rattle.meaning.proofs.Laws.TreeLaws.{same_eq, eq_same}
+use Rattle.meaning.proofs.Laws.ListingLaws.{Has, AllHas, Ordered, some_has, nth_old, nth_new, one_more, visit_has, visit_ordered}
 
 -- ---- a tree that is there
 module _ (seen : List Tree) (t : Tree) where

@@ -12,11 +12,11 @@ use borrow.Author.Tests.{eq-eqb, ne_eqb, eqb-true, eqb-false}
 use Rattle.meaning.specs.Rules.Kinds.{program_word, lut_word}
 use Rattle.meaning.specs.Rules.Trees.{Tree, Forest, node, none, ◌◂◌, same, same_all, forest, nth_tree}
 use Rattle.meaning.specs.Rules.Search.{lowest}
-use Rattle.meaning.specs.Laws.BoolLaws.{true_false, and_left, and_right, not_true, not_is_false}
+use Rattle.meaning.proofs.Laws.BoolLaws.{true_false, and_left, and_right, not_true, not_is_false}
 use Rattle.meaning.specs.Rules.Listing.{number_in}
-use Rattle.meaning.specs.Laws.SearchLaws.{IsLowest, lowest_is, lowest_only}
-use Rattle.meaning.specs.Laws.TestLaws.{none_is}
-use Rattle.meaning.specs.Laws.TreeLaws.{same_eq, same_all_refl}
+use Rattle.meaning.proofs.Laws.SearchLaws.{IsLowest, lowest_is, lowest_only}
+use Rattle.meaning.proofs.Laws.TestLaws.{none_is}
+use Rattle.meaning.proofs.Laws.TreeLaws.{same_eq, same_all_refl}
 use Rattle.columns.specs.Columns.{cell, home_column, kind_column, datum_column, count_column, number_column}
 use Rattle.form_rows.specs.From.{from, from_length, from_same}
 use Rattle.form_rows.specs.Forms.{nf_at, made, program_of, kid_at, kids_in, Home}

@@ -6,7 +6,7 @@ use Rattle.std.proofs.Math.Decide.{ℕ_discrete}
 use Rattle.meaning.specs.Rules.Kinds.{lut_word}
 use Rattle.meaning.specs.Rules.Trees.{Tree, Forest, node, ◌◂◌, forest, node_count, children}
 use Rattle.meaning.specs.Rules.Listing.{keep, number_in}
-use Rattle.meaning.specs.Laws.ListingLaws.{Has, AllHas, keep_ordered}
+use Rattle.meaning.proofs.Laws.ListingLaws.{Has, AllHas, keep_ordered}
 use Rattle.columns.specs.Columns.{place, cell, kind_column, datum_column, count_column, number_column, program_column, listed_column, stack_column, next_column}
 use Rattle.form_rows.specs.Forms.{nf_at, made, program_of, kid_at, kids_in, Home}
 use Rattle.form_rows.specs.From.{from}

@@ -6,8 +6,8 @@ use Rattle.meaning.specs.Rules.Limits.{widest_bus}
 use Rattle.meaning.specs.Rules.Kinds.{lut_word}
 use Rattle.meaning.specs.Rules.Trees.{Tree, node_count, root_of}
 use Rattle.meaning.specs.Rules.Listing.{visit, subtrees}
-use Rattle.meaning.specs.Laws.ListingLaws.{Ordered}
-use Rattle.meaning.specs.Laws.ReachLaws.{reach_root}
+use Rattle.meaning.proofs.Laws.ListingLaws.{Ordered}
+use Rattle.meaning.proofs.Laws.ReachLaws.{reach_root}
 use Rattle.columns.specs.Columns.{cell, home_column, kind_column, datum_column, count_column, number_column, stack_column, next_column}
 use Rattle.form_rows.specs.Forms.{nf_at, Home, HomeOf, Formed}
 use Rattle.form_rows.specs.Same.{same_own}

@@ -11,7 +11,7 @@ use Rattle.std.proofs.Math.ListN.{length}
 use borrow.Author.Tests.{eq-eqb, eqb-true, eqb-false}
 use Rattle.meaning.specs.Rules.Trees.{Tree, node_count, nth_tree}
 use Rattle.meaning.specs.Rules.Listing.{keep, number_in}
-use Rattle.meaning.specs.Laws.ListingLaws.{nth_new, one_more}
+use Rattle.meaning.proofs.Laws.ListingLaws.{nth_new, one_more}
 use Rattle.columns.specs.Columns.{place, cell, home_column, number_column, listed_column}
 use Rattle.form_rows.specs.Forms.{kid_at, Home}
 use Rattle.form_rows.specs.Same.{SameForms, same_then, same_set}

@@ -7,7 +7,7 @@ use Rattle.meaning.specs.Rules.Limits.{work_per_node}
 use Rattle.meaning.specs.Rules.Kinds.{lut_word}
 use Rattle.meaning.specs.Rules.Trees.{Tree, node_count}
 use Rattle.meaning.specs.Rules.Listing.{keep, number_in}
-use Rattle.meaning.specs.Laws.ListingLaws.{keep_ordered}
+use Rattle.meaning.proofs.Laws.ListingLaws.{keep_ordered}
 use Rattle.columns.specs.Columns.{place, cell, kind_column, datum_column, number_column, program_column, stack_column, next_column}
 use Rattle.form_rows.specs.Forms.{program_of, Home}
 use Rattle.listed.specs.Keeping.{grows_own, keep_grows, keep_number}

@@ -3,7 +3,7 @@ use Rattle.std.specs.Prelude.{ℕ, ◌+◌, ◌/◌, ◌%◌, ◌≤◌, ◌<◌
 use Rattle.std.proofs.Common.{sym, ap, subst, ◌∙◌, arith}
 use Rattle.meaning.specs.Rules.Kinds.{lut_word}
 use Rattle.meaning.specs.Rules.Trees.{Tree, node_count}
-use Rattle.meaning.specs.Laws.ListingLaws.{Ordered}
+use Rattle.meaning.proofs.Laws.ListingLaws.{Ordered}
 use Rattle.columns.specs.Columns.{cell, kind_column, datum_column, count_column, number_column, program_column, stack_column, next_column}
 use Rattle.form_rows.specs.Forms.{nf_at, program_of, kid_at, Home}
 use Rattle.listed.specs.Keeping.{Grows, number_stays, still_there}

@@ -8,7 +8,7 @@ use Rattle.std.proofs.Math.Decide.{ℕ_discrete}
 use Rattle.std.proofs.Math.Seq.{drop-cons}
 use Rattle.std.proofs.Math.Dec.{ltb}
 use borrow.Author.Tests.{lt-ltb, eq-eqb, ne_eqb, ltb-true}
-use Rattle.meaning.specs.Laws.BoolLaws.{and_left, and_right}
+use Rattle.meaning.proofs.Laws.BoolLaws.{and_left, and_right}
 use Rattle.meaning.specs.Rules.Limits.{work_per_node}
 use Rattle.meaning.specs.Rules.Trees.{children_at}
 use Rattle.meaning.specs.Rules.Refusals.{every, some}

@@ -6,13 +6,13 @@ use Rattle.std.proofs.Common.{sym, ap, ap₂, ◌∙◌, arith, zero-add, suc-ad
 use Rattle.std.proofs.Math.Path.{subst}
 use Rattle.std.proofs.Math.Decide.{dec_lt, ℕ_discrete}
 use Rattle.std.proofs.Math.ListN.{drop}
-use Rattle.meaning.specs.Laws.BoolLaws.{and_left, and_right, and_both}
+use Rattle.meaning.proofs.Laws.BoolLaws.{and_left, and_right, and_both}
 use Rattle.meaning.specs.Rules.Limits.{work_per_node}
 use Rattle.meaning.specs.Rules.Trees.{node_count, children_at}
 use Rattle.meaning.specs.Rules.Refusals.{every, some}
 use Rattle.meaning.specs.Rules.Layout.{children_below}
 use Rattle.meaning.specs.Rules.Reach.{is_cycle, is_child, nearer, through, through_all, marks_of_last, marks, mark_of}
-use Rattle.meaning.specs.Laws.ReachLaws.{marks_length, root_mark}
+use Rattle.meaning.proofs.Laws.ReachLaws.{marks_length, root_mark}
 use Rattle.columns.specs.Columns.{cell, mark_column, with_column}
 use Rattle.columns.specs.ColumnLaws.{with_length, with_column_lem, with_same, with_again}
 use Rattle.marks.specs.Handing.{only_root, handed_on, lower, turn, turn_reached, turn_unreached, lowered_column}

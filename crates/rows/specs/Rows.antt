@@ -13,7 +13,7 @@ use Rattle.meaning.specs.Rules.Evaluable.{Shape, bit, program, bus, shape_code, 
 use Rattle.meaning.specs.Rules.Answers.{Assignment, answer, state_of, value_of}
 use Rattle.meaning.specs.Rules.Pairs.{no_answer, state_at, value_at}
 use Rattle.meaning.specs.Claims.Column.{Sound}
-use Rattle.meaning.specs.Claims.Pairs.{pair_answered, pair_none}
+use Rattle.meaning.proofs.Claims.Pairs.{pair_answered, pair_none}
 use Rattle.columns.specs.Columns.{cell, mark_column, shape_column, state_column, value_column, Column}
 use Rattle.shapes.specs.Shapes.{shape_at, coded}
 use Rattle.operators.specs.Widths.{Within}

@@ -10,7 +10,7 @@ use Rattle.meaning.specs.Rules.Reach.{mark_of}
 use Rattle.meaning.specs.Rules.Verification.{verify_fault}
 use Rattle.meaning.specs.Rules.Evaluable.{shape_fault}
 use Rattle.meaning.specs.Rules.Canonical.{gate_fault}
-use Rattle.meaning.specs.Laws.NumberLaws.{lowest_exactly, all_done, lowest_zero}
+use Rattle.meaning.proofs.Laws.NumberLaws.{lowest_exactly, all_done, lowest_zero}
 use Rattle.lists.specs.Laid.{Laid}
 use Rattle.columns.specs.Columns.{mark_column, shape_column, Column}
 use Rattle.shapes.specs.Shapes.{shape_at}

@@ -6,7 +6,7 @@ use Rattle.meaning.specs.declared.Separation.{Separation}
 use Rattle.meaning.specs.Rules.Trees.{root_of}
 use Rattle.meaning.specs.Rules.Calls.{Judged, judged, separate}
 use Rattle.meaning.specs.Claims.Terms.{NoCrossing, Crosses}
-use Rattle.meaning.specs.Claims.Demands.{demand_3_separate, demand_3_otherwise}
+use Rattle.meaning.proofs.Claims.Demands.{demand_3_separate, demand_3_otherwise}
 
 -- a call's answer and what it left of the work space, by the contract; the call was not refused
 module _ (ns ps : List ℕ) (n run : ℕ) (work left : List ℕ) (s : Separation) (meets : judged s left ≡ separate ns ps n run work) (done : s.refusal.number ≡ 0) where

@@ -11,8 +11,8 @@ use Rattle.meaning.specs.Rules.Trees.{Tree, root_of}
 use Rattle.meaning.specs.Rules.Answers.{Assignment, answer}
 use Rattle.meaning.specs.Rules.Assignments.{upto, drive}
 use Rattle.meaning.specs.Rules.Separation.{is_marked, run_cleared, crossing_index, separated, crossing_at, separate_tree}
-use Rattle.meaning.specs.Laws.WordLaws.{bit_lt}
-use Rattle.meaning.specs.Laws.AssignmentLaws.{upto_length}
+use Rattle.meaning.proofs.Laws.WordLaws.{bit_lt}
+use Rattle.meaning.proofs.Laws.AssignmentLaws.{upto_length}
 use Rattle.inputs.specs.Inputs.{selected_below}
 use Rattle.inputs.specs.Driving.{Drivable}
 use Rattle.inputs.specs.Room.{undriven_bytes, undriven_length, fresh_undriven}

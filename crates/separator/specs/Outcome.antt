@@ -12,9 +12,9 @@ use Rattle.meaning.specs.Rules.Evaluable.{sound}
 use Rattle.meaning.specs.Rules.Separation.{in_bounds, bounded, separate_tree, separation_refused}
 use Rattle.meaning.specs.Rules.Calls.{separate_refusal, separation, judged, separate}
 use Rattle.meaning.specs.Claims.Terms.{Says}
-use Rattle.meaning.specs.Laws.RefusalLaws.{then_first, then_rest, require_done, work_cleared}
-use Rattle.meaning.specs.Laws.NumberLaws.{then_go, then_stop, then_joined, then_says, never}
-use Rattle.meaning.specs.Laws.ColumnLaws.{sound_says, bounded_says}
+use Rattle.meaning.proofs.Laws.RefusalLaws.{then_first, then_rest, require_done, work_cleared}
+use Rattle.meaning.proofs.Laws.NumberLaws.{then_go, then_stop, then_joined, then_says, never}
+use Rattle.meaning.proofs.Laws.ColumnLaws.{sound_says, bounded_says}
 use Rattle.sizes.specs.Lent.{lent_row, lent_keeps}
 
 module _ (ns ps : List ℕ) (n run : ℕ) where

@@ -4,8 +4,8 @@ use Rattle.std.proofs.Common.{sym, ◌∙◌, arith, ltb-true, lt-ltb}
 use Rattle.std.proofs.Math.Path.{ap}
 use mathlib.Core.List.{List, [], ◌∷◌}
 use Rattle.std.proofs.Math.Dec.{ltb}
-use Rattle.meaning.specs.Laws.BoolLaws.{and_left, and_right}
-use Rattle.meaning.specs.Laws.TreeLaws.{tree_at}
+use Rattle.meaning.proofs.Laws.BoolLaws.{and_left, and_right}
+use Rattle.meaning.proofs.Laws.TreeLaws.{tree_at}
 use Rattle.meaning.specs.Rules.Limits.{work_per_node}
 use Rattle.meaning.specs.Rules.Numbers.{not_evaluable}
 use Rattle.meaning.specs.Rules.Kinds.{kind_of, program_word}

@@ -9,11 +9,11 @@ use Rattle.meaning.specs.Rules.Assignments.{is_in}
 use Rattle.meaning.specs.Rules.Refusals.{◌then◌, every, work_after}
 use Rattle.meaning.specs.Rules.Layout.{sizes, work_for, room}
 use Rattle.meaning.specs.Claims.Terms.{Says}
-use Rattle.meaning.specs.Laws.BoolLaws.{true_false, or_cases}
-use Rattle.meaning.specs.Laws.RefusalLaws.{then_first, then_rest, work_kept}
-use Rattle.meaning.specs.Laws.NumberLaws.{then_says}
-use Rattle.meaning.specs.Laws.RootLaws.{every_in}
-use Rattle.meaning.specs.Laws.ColumnLaws.{sizes_says, room_says, room_passed}
+use Rattle.meaning.proofs.Laws.BoolLaws.{true_false, or_cases}
+use Rattle.meaning.proofs.Laws.RefusalLaws.{then_first, then_rest, work_kept}
+use Rattle.meaning.proofs.Laws.NumberLaws.{then_says}
+use Rattle.meaning.proofs.Laws.RootLaws.{every_in}
+use Rattle.meaning.proofs.Laws.ColumnLaws.{sizes_says, room_says, room_passed}
 use Rattle.sizes.specs.Within.{sizes_within}
 
 -- the row of the three, for so many words of work space

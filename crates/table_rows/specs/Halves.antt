@@ -5,8 +5,8 @@ use Rattle.std.specs.Prelude.{ℕ, suc, ◌+◌, ◌*◌, ◌/◌, ◌%◌, ◌^
 use Rattle.std.proofs.Common.{sym, ap, ◌∙◌, pow-suc, mod-lt, mod-eq_of_lt, arith, pow_pos, pow-add, shr_lt}
 use Rattle.std.proofs.Math.Nat.{div-eq_of_lt}
 use Rattle.bits.specs.Bit.{bit_ext, bit_shr}
-use Rattle.meaning.specs.Laws.TableLaws.{cofactor_row, cofactor_lt}
-use Rattle.meaning.specs.Laws.WordLaws.{bit_mod}
+use Rattle.meaning.proofs.Laws.TableLaws.{cofactor_row, cofactor_lt}
+use Rattle.meaning.proofs.Laws.WordLaws.{bit_mod}
 use Rattle.meaning.specs.Rules.Tables.{insert_bit, cofactor, high_half, low_half}
 use Rattle.meaning.specs.Rules.Words.{bit_at}
 

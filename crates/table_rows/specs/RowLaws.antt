@@ -5,10 +5,10 @@ use Rattle.std.proofs.Common.{sym, ap, ◌∙◌, add_comm, mod-lt, add-one, ari
 use Rattle.std.proofs.Math.Arith.{digits_lt}
 use borrow.Author.Tests.{eq-eqb, ne_eqb, le-leb, leb-true}
 use Rattle.bits.specs.Bit.{bit_ext}
-use Rattle.meaning.specs.Laws.BoolLaws.{true_false, and_left}
-use Rattle.meaning.specs.Laws.SearchLaws.{lowest_only}
-use Rattle.meaning.specs.Laws.WordLaws.{bit_lt}
-use Rattle.meaning.specs.Laws.TableLaws.{table_lt, cofactor_row, cofactor_lt, ignores_row}
+use Rattle.meaning.proofs.Laws.BoolLaws.{true_false, and_left}
+use Rattle.meaning.proofs.Laws.SearchLaws.{lowest_only}
+use Rattle.meaning.proofs.Laws.WordLaws.{bit_lt}
+use Rattle.meaning.proofs.Laws.TableLaws.{table_lt, cofactor_row, cofactor_lt, ignores_row}
 use Rattle.meaning.specs.Rules.Limits.{widest_bus}
 use Rattle.meaning.specs.Rules.Tables.{table, table_fits, insert_bit, swap_bits, cofactor, ignores, pair_differs}
 use Rattle.meaning.specs.Rules.Words.{bit_at}

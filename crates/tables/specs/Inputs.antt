@@ -7,8 +7,8 @@ use Rattle.std.proofs.lemmas.List.{length-reverse, get_or_at}
 use Rattle.std.proofs.Math.ListN.{get_or-append}
 use Rattle.std.proofs.Math.Seq.{take-length}
 use Rattle.std.proofs.Math.Decide.{dec_lt}
-use Rattle.meaning.specs.Laws.BoolLaws.{and_left, and_right}
-use Rattle.meaning.specs.Laws.TableLaws.{AreBits, nil, bit, bits_append, bits_at, bits_take, row_lt}
+use Rattle.meaning.proofs.Laws.BoolLaws.{and_left, and_right}
+use Rattle.meaning.proofs.Laws.TableLaws.{AreBits, nil, bit, bits_append, bits_at, bits_take, row_lt}
 use Rattle.meaning.specs.Rules.Tables.{TableAnswer, in_range, says, lut_inputs, are_bits, row_from}
 use Rattle.meaning.specs.Rules.Words.{bit_at}
 

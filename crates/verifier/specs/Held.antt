@@ -11,7 +11,7 @@ use Rattle.meaning.specs.Rules.Reach.{mark_of}
 use Rattle.meaning.specs.Rules.Verification.{verification}
 use Rattle.meaning.specs.Rules.Evaluable.{sound}
 use Rattle.meaning.specs.Claims.Column.{Sound}
-use Rattle.meaning.specs.Laws.ColumnLaws.{sound_passed}
+use Rattle.meaning.proofs.Laws.ColumnLaws.{sound_passed}
 use Rattle.columns.specs.Columns.{place, cell, mark_column, shape_column, Column}
 use Rattle.columns.specs.ColumnLaws.{with_length, with_elsewhere, with_row_before}
 use Rattle.shapes.specs.Shapes.{shape_at}

@@ -12,9 +12,9 @@ use Rattle.meaning.specs.Rules.Verification.{verify_fault, verification}
 use Rattle.meaning.specs.Rules.Evaluable.{rooted, shape_fault, evaluability, sound}
 use Rattle.meaning.specs.Rules.Calls.{verify_refusal, verified, verify}
 use Rattle.meaning.specs.Claims.Terms.{Says}
-use Rattle.meaning.specs.Laws.RefusalLaws.{then_first, work_cleared}
-use Rattle.meaning.specs.Laws.NumberLaws.{then_go, then_stop, then_joined, then_says, never}
-use Rattle.meaning.specs.Laws.ColumnLaws.{layout_says, verification_says, rooted_passed}
+use Rattle.meaning.proofs.Laws.RefusalLaws.{then_first, work_cleared}
+use Rattle.meaning.proofs.Laws.NumberLaws.{then_go, then_stop, then_joined, then_says, never}
+use Rattle.meaning.proofs.Laws.ColumnLaws.{layout_says, verification_says, rooted_passed}
 use Rattle.sizes.specs.Lent.{lent_row, lent_keeps}
 
 module _ (ns ps : List ℕ) where

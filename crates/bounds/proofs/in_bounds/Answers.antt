@@ -1,5 +1,5 @@
 -- `in_bounds` meets its contract: n within its bound, so that its power of two is a word.
-use Rattle.meaning.specs.Laws.BoolLaws.{not_is_true, not_is_false}
+use Rattle.meaning.proofs.Laws.BoolLaws.{not_is_true, not_is_false}
 use Rattle.meaning.specs.Rules.Separation.{variables_below, in_bounds}
 use Rattle.meaning.specs.Rules.Limits.{most_inputs}
 use borrow.Author.Tests.{le-leb, lt-leb}

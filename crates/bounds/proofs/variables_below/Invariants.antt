@@ -1,6 +1,6 @@
 -- `variables_below` meets its contract: no node below the loop's is outside, so the first that is decides.
 use Rattle.meaning.specs.Rules.Separation.{outside}
-use Rattle.meaning.specs.Laws.SearchLaws.{NoneBelow, none_yet, none_next}
+use Rattle.meaning.proofs.Laws.SearchLaws.{NoneBelow, none_yet, none_next}
 use Rattle.bounds.specs.Bounds.{some_outside, none_outside}
 use Rattle.meaning.specs.Rules.Trees.{node_count}
 use native.Mathlib.Omega.{arith}

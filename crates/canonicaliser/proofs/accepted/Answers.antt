@@ -1,7 +1,7 @@
 -- `accepted` meets its contract: numbers 3 to 8, then 14.
 use Rattle.canonicaliser.specs.Accepted.{ready}
 use Rattle.search.specs.Search.{Marked, Shaped}
-use Rattle.meaning.specs.Laws.NumberLaws.{then_go, then_stop}
+use Rattle.meaning.proofs.Laws.NumberLaws.{then_go, then_stop}
 use Rattle.meaning.specs.Rules.Canonical.{gates}
 use Rattle.meaning.specs.Rules.Evaluable.{sound}
 use Rattle.meaning.specs.declared.Refusal.{Refusal}

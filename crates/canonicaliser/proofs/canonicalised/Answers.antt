@@ -2,7 +2,7 @@
 use Rattle.canonicaliser.specs.Accepted.{prepared}
 use Rattle.canonicaliser.specs.Outcome.{refused_with, accepted_row, canonical_refused, rest_refused, rest_accepted}
 use Rattle.rows.specs.Rows.{Prepared}
-use Rattle.meaning.specs.Laws.RefusalLaws.{refused_output}
+use Rattle.meaning.proofs.Laws.RefusalLaws.{refused_output}
 use Rattle.meaning.specs.Rules.Calls.{canonical}
 use Rattle.meaning.specs.Rules.Canonical.{canonical_nodes, canonical_pool}
 use Rattle.meaning.specs.Rules.Refusals.{is_done}

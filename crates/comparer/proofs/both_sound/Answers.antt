@@ -10,7 +10,7 @@ use Rattle.comparer.specs.Both.{second_room, both_sound}
 use Rattle.trials.specs.Trial.{BothPrepared}
 use Rattle.verifier.specs.Left.{sound_work}
 use Rattle.meaning.specs.declared.Refusal.{Refusal}
-use Rattle.meaning.specs.Laws.NumberLaws.{then_go, then_stop}
+use Rattle.meaning.proofs.Laws.NumberLaws.{then_go, then_stop}
 use Rattle.meaning.specs.Rules.Refusals.{◌then◌}
 use Rattle.meaning.specs.Rules.Evaluable.{sound}
 use Rattle.meaning.specs.Rules.Limits.{work_per_node}

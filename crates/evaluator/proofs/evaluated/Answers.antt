@@ -7,7 +7,7 @@ use Rattle.rows.specs.Rows.{Prepared, Filled}
 use Rattle.rows.specs.Root.{root_there, root_wide, root_shown}
 use native.Mathlib.Nat.{zero-add}
 use Rattle.verifier.specs.Left.{sound_work}
-use Rattle.meaning.specs.Laws.RefusalLaws.{refused_output}
+use Rattle.meaning.proofs.Laws.RefusalLaws.{refused_output}
 use Rattle.meaning.specs.Rules.Pairs.{pairs}
 use Rattle.meaning.specs.Rules.Lent.{written}
 use Rattle.meaning.specs.Rules.Assignments.{given}

@@ -1,6 +1,6 @@
 -- `input_bit` meets its contract: another kind, an unreached node, or the bit of the variable.
 use Rattle.input_bits.specs.Seen.{other_kind, unreached, reached}
-use Rattle.meaning.specs.Laws.RefusalLaws.{variable_below}
+use Rattle.meaning.proofs.Laws.RefusalLaws.{variable_below}
 use Rattle.meaning.specs.Rules.Reach.{mark_of}
 use Rattle.meaning.specs.Rules.Trees.{kind_at, first_at}
 use Rattle.meaning.specs.Rules.Kinds.{variable_word}

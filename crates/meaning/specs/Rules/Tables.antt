@@ -1,5 +1,5 @@
 -- Truth-table routines (document 01). A program over k operands has 2 ^ k rows; row i is bit i.
-use Rattle.std.specs.Prelude.{ℕ, zero, suc, ◌+◌, ◌-◌, ◌*◌, ◌/◌, ◌%◌, ◌^◌, List, [], ◌∷◌, reverse, Bool, true, cond, not, ◌&&◌, length, ltb, leb, eqb}
+use Rattle.std.specs.Prelude.{ℕ, zero, suc, ◌+◌, ◌-◌, ◌*◌, ◌/◌, ◌%◌, ◌^◌, List, [], ◌∷◌, ◌++◌, take, drop, reverse, Bool, true, cond, not, ◌&&◌, length, ltb, leb, eqb}
 use Rattle.meaning.specs.declared.LutBit.{LutBit}
 use Rattle.meaning.specs.declared.LutBit.TheVariants as lut_bit
 use Rattle.meaning.specs.declared.BitVector.{BitVector}
@@ -88,6 +88,10 @@ swap_bits pos i = ((i / 2 ^ (pos + 2) * 2 + bit_at i pos) * 2 + bit_at i (pos + 
 abbrev pub row_from : ℕ → List ℕ → ℕ
 row_from r [] = r
 row_from r (b ∷ bs) = row_from (r * 2 + b) bs
+
+-- the bits but that at place j, for the row that they are
+abbrev pub but_one : ℕ → List ℕ → List ℕ
+but_one j bs = take j bs ++ drop (suc j) bs
 
 abbrev pub are_bits : List ℕ → Bool
 are_bits [] = true

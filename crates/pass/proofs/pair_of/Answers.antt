@@ -1,6 +1,6 @@
 -- `pair_of` meets its contract: by mark and kind: no answer, or the answer's words.
 use mathlib.Core.Logic.{inl}
-use Rattle.meaning.specs.Claims.Pairs.{pair_none}
+use Rattle.meaning.proofs.Claims.Pairs.{pair_none}
 use Rattle.rows.specs.Rows.{pair_logic, pair_unreached}
 use Rattle.answer_words.specs.declared.Words.{Words}
 use Rattle.accepted.specs.Nodes.{Logic}

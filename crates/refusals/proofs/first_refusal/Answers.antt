@@ -1,6 +1,6 @@
 -- `first_refusal` meets its contract: the first test decides the row, or the second does.
 use mathlib.Core.Path.{sym}
-use Rattle.meaning.specs.Laws.NumberLaws.{then_go, then_stop}
+use Rattle.meaning.proofs.Laws.NumberLaws.{then_go, then_stop}
 use Rattle.refusals.proofs.first_refusal.Goals as goal
 
 pub returns-then-first-eq-DONE : goal.returns-then-first-eq-DONE

@@ -1,6 +1,6 @@
 -- `judgement` meets its contract: what number 11 leaves is what the search asks.
 use Rattle.separator.specs.Judged.{named_length, searchable, drivable}
-use Rattle.meaning.specs.Laws.RefusalLaws.{bounds_few, bounds_variables, marks_below}
+use Rattle.meaning.proofs.Laws.RefusalLaws.{bounds_few, bounds_variables, marks_below}
 use Rattle.inputs.specs.Room.{blanks_length}
 use Rattle.meaning.specs.Rules.Separation.{in_bounds, separate_tree}
 use Rattle.meaning.specs.Rules.Assignments.{upto}

@@ -1,6 +1,6 @@
 -- `lent` meets its contract: number 1 or 2 stops the row; past them number 10 is asked.
 use Rattle.sizes.specs.Within.{sizes_within}
-use Rattle.meaning.specs.Laws.NumberLaws.{then_go, then_stop}
+use Rattle.meaning.proofs.Laws.NumberLaws.{then_go, then_stop}
 use Rattle.meaning.specs.Rules.Layout.{sizes, work_for, room}
 use Rattle.meaning.specs.declared.Refusal.{Refusal}
 use native.Mathlib.Omega.{arith}

@@ -8,8 +8,8 @@ use borrow.Author.Tests.{eqb-true, eq-eqb}
 use Rattle.meaning.specs.declared.Refusal.{Refusal}
 use Rattle.meaning.specs.Rules.Refusals.{◌then◌}
 use Rattle.meaning.specs.Rules.Layout.{sizes, work_for, room}
-use Rattle.meaning.specs.Laws.NumberLaws.{then_go, then_stop, then_joined}
-use Rattle.meaning.specs.Laws.RefusalLaws.{then_first, then_rest}
+use Rattle.meaning.proofs.Laws.NumberLaws.{then_go, then_stop, then_joined}
+use Rattle.meaning.proofs.Laws.RefusalLaws.{then_first, then_rest}
 use Rattle.sizes.specs.Within.{sizes_within}
 use borrow.Author.Rules.{rules}
 use Rattle.sizes.proofs.lent_both.Goals as goal

@@ -2,7 +2,7 @@
 use native.Mathlib.Omega.{arith}
 use borrow.Author.Tests.{le-leb, lt-leb}
 use borrow.Author.Rules.{rules}
-use Rattle.meaning.specs.Laws.BoolLaws.{told_yes, told_no}
+use Rattle.meaning.proofs.Laws.BoolLaws.{told_yes, told_no}
 use Rattle.meaning.specs.Rules.Tables as meant
 use Rattle.table_rows.specs.RowLaws.{fits_operands}
 use Rattle.tables.proofs.cofactors_in_msb.Goals as goal

@@ -3,7 +3,7 @@ use Prim.Native.Nat.{◌+◌}
 use native.Mathlib.Omega.{arith}
 use borrow.Author.Tests.{lt-ltb, le-ltb}
 use borrow.Author.Rules.{rules}
-use Rattle.meaning.specs.Laws.BoolLaws.{told_yes, told_no}
+use Rattle.meaning.proofs.Laws.BoolLaws.{told_yes, told_no}
 use Rattle.meaning.specs.Rules.Tables as meant
 use Rattle.table_rows.specs.RowLaws.{fits_operands}
 use Rattle.tables.proofs.swap_pos.Goals as goal

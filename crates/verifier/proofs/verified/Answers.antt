@@ -4,7 +4,7 @@ use mathlib.Core.List.{List}
 use Prim.Native.Nat.{ℕ}
 use borrow.Author.Rules.{rules}
 use native.Mathlib.Omega.{arith}
-use Rattle.meaning.specs.Laws.NumberLaws.{then_go, then_stop}
+use Rattle.meaning.proofs.Laws.NumberLaws.{then_go, then_stop}
 use Rattle.meaning.specs.Rules.Refusals.{◌then◌}
 use Rattle.meaning.specs.Rules.Verification.{verification}
 use Rattle.meaning.specs.Rules.Layout.{layout}

@@ -3,7 +3,7 @@ use Rattle.canonicaliser.specs.Accepted.{fits_told, Room, row_room}
 use Rattle.canonicaliser.specs.Outcome.{refused_with, fit_row, canonical_refused, canonical_done}
 use Rattle.list_output.specs.Canonical.{listing_rows, listing_nodes, listing_size, listing_words}
 use Rattle.listed.specs.Listing.{Listing}
-use Rattle.meaning.specs.Laws.RefusalLaws.{refused_output}
+use Rattle.meaning.proofs.Laws.RefusalLaws.{refused_output}
 use Rattle.meaning.specs.Rules.Calls.{fits_lists}
 use Rattle.meaning.specs.Rules.Canonical.{canonical_nodes, canonical_pool}
 use Rattle.meaning.specs.Rules.Refusals.{require}

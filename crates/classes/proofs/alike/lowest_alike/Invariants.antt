@@ -1,7 +1,7 @@
 -- `lowest_alike` meets its contract: no node that the loop has passed has the tree, and the first that has it is the lowest.
 use Rattle.classes.specs.Classes.{has_tree}
 use Rattle.classes.specs.Ready.{filled_under}
-use Rattle.meaning.specs.Laws.SearchLaws.{lowest_only}
+use Rattle.meaning.proofs.Laws.SearchLaws.{lowest_only}
 use Rattle.meaning.specs.Rules.Trees.{tree_of}
 use borrow.Author.Rules.{rules}
 use borrow.Author.Count.{below_more}

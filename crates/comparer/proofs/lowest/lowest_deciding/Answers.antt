@@ -11,8 +11,8 @@ use Rattle.meaning.specs.Rules.Trees.{Tree, root_of}
 use Rattle.meaning.specs.Rules.Assignments.{inputs, drive}
 use Rattle.meaning.specs.Rules.Answers.{Assignment, answer}
 use Rattle.meaning.specs.Rules.Comparison.{agree, decides, assignments, decided_at}
-use Rattle.meaning.specs.Laws.BoolLaws.{not_is_true, not_is_false}
-use Rattle.meaning.specs.Laws.SearchLaws.{NoneBelow, none_yet, none_next}
+use Rattle.meaning.proofs.Laws.BoolLaws.{not_is_true, not_is_false}
+use Rattle.meaning.proofs.Laws.SearchLaws.{NoneBelow, none_yet, none_next}
 use Rattle.inputs.specs.Driving.{OthersUndriven, still_undriven}
 use Rattle.trials.specs.declared.Roots.{Roots}
 use Rattle.trials.specs.Trial.{BothPrepared, tried_work, still_both}

@@ -1,5 +1,5 @@
 -- `inputs_above` meets its contract: no more variables than places looked at, and no more than a word has.
-use Rattle.meaning.specs.Laws.WordLaws.{bit_lt}
+use Rattle.meaning.proofs.Laws.WordLaws.{bit_lt}
 use native.Mathlib.Omega.{arith}
 use Prim.Native.Nat.{◌-◌, ◌≤◌}
 use Rattle.crossings.proofs.stages.inputs_above.Reads as reads

@@ -1,6 +1,6 @@
 -- `all_known` meets its contract: the loop has passed known bytes only, so what is left decides.
 use Rattle.lists.specs.Scan.{every_stop, every_more, every_done}
-use Rattle.meaning.specs.Laws.TestLaws.{is_le, is_above}
+use Rattle.meaning.proofs.Laws.TestLaws.{is_le, is_above}
 use Rattle.meaning.specs.Rules.Refusals.{every}
 use Rattle.meaning.specs.Rules.Answers.{undriven_byte}
 use native.Mathlib.Omega.{arith}

@@ -3,7 +3,7 @@ use mathlib.Core.Path.{refl, subst, ◌≡◌, sym, ◌∙◌}
 use mathlib.Core.List.{List}
 use Rattle.folding.specs.Folded.{constant_at}
 use Rattle.columns.specs.Columns.{cell, kind_column}
-use Rattle.meaning.specs.Laws.SearchLaws.{NoneBelow, none_yet, none_next, lowest_here, lowest_none}
+use Rattle.meaning.proofs.Laws.SearchLaws.{NoneBelow, none_yet, none_next, lowest_here, lowest_none}
 use borrow.Author.Tests.{eq-eqb, ne_eqb}
 use lib.ListN.{length, get_or}
 use Prim.Native.Nat.{ℕ, ◌≤◌, ◌-◌}

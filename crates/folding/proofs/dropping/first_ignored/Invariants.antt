@@ -2,7 +2,7 @@
 use mathlib.Core.Path.{refl, subst, ap₂, ◌≡◌, sym, ◌∙◌}
 use Rattle.folding.specs.Folded.{ignored_at}
 use Rattle.meaning.specs.Rules.Tables.{ignores}
-use Rattle.meaning.specs.Laws.SearchLaws.{NoneBelow, none_yet, none_next, lowest_here, lowest_none}
+use Rattle.meaning.proofs.Laws.SearchLaws.{NoneBelow, none_yet, none_next, lowest_here, lowest_none}
 use Prim.Native.Nat.{ℕ, ◌≤◌, ◌-◌}
 use native.Mathlib.Omega.{arith}
 use borrow.Author.Rules.{rules}

@@ -8,7 +8,7 @@ use native.Mathlib.Omega.{arith}
 use borrow.Author.Tests.{eqb-true}
 use Rattle.columns.specs.Columns.{cell, kind_column, datum_column}
 use Rattle.meaning.specs.Rules.Tables.{cofactor}
-use Rattle.meaning.specs.Laws.SearchLaws.{lowest_is}
+use Rattle.meaning.proofs.Laws.SearchLaws.{lowest_is}
 use Rattle.folding.specs.declared.dropping.Next.TheVariants.{Drop}
 use Rattle.folding.specs.Folded.{constant_at}
 use Rattle.folding.specs.FoldedLaws.{next_constant, next_ignored, next_stay}

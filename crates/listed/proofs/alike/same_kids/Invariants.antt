@@ -2,7 +2,7 @@
 use Rattle.listed.specs.Likeness.{kid_differs, same_kids}
 use Rattle.form_rows.specs.Forms.{kid_at}
 use Rattle.meaning.specs.Rules.Search.{lowest}
-use Rattle.meaning.specs.Laws.SearchLaws.{NoneBelow, none_yet, none_next, lowest_here, lowest_none}
+use Rattle.meaning.proofs.Laws.SearchLaws.{NoneBelow, none_yet, none_next, lowest_here, lowest_none}
 use Rattle.columns.specs.Columns.{cell, number_column}
 use borrow.Author.Tests.{eq-eqb, ne_eqb}
 use Prim.Native.Nat.{ℕ, ◌-◌, ◌/◌, ◌≤◌}

@@ -2,7 +2,7 @@
 use Rattle.listing.specs.Steps.{own_number}
 use Rattle.listed.specs.Likeness.{is_program, is_form}
 use Rattle.listed.specs.Entries.{listable_reads}
-use Rattle.meaning.specs.Laws.SearchLaws.{lowest_is}
+use Rattle.meaning.proofs.Laws.SearchLaws.{lowest_is}
 use Rattle.meaning.specs.Rules.Search.{lowest}
 use Rattle.meaning.specs.Rules.Kinds.{program_word}
 use Rattle.columns.specs.Columns.{cell, kind_column, datum_column}

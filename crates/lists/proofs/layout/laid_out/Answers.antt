@@ -2,7 +2,7 @@
 use borrow.Author.Rules.{rules}
 use mathlib.Core.Bool.{false, true}
 use mathlib.Core.Path.{◌≡◌, ◌∙◌}
-use Rattle.meaning.specs.Laws.BoolLaws.{told_yes, told_no}
+use Rattle.meaning.proofs.Laws.BoolLaws.{told_yes, told_no}
 use Rattle.meaning.specs.Rules.Kinds.{may_have, kind_of}
 use Rattle.meaning.specs.Rules.Trees.{kind_at, count_at}
 use Rattle.lists.proofs.layout.laid_out.Goals as goal

@@ -5,7 +5,7 @@ use lib.Dec.{ltb}
 use mathlib.Core.Bool.{false, true}
 use mathlib.Core.Path.{◌≡◌, sym, ap, ◌∙◌}
 use native.Mathlib.Omega.{arith}
-use Rattle.meaning.specs.Laws.BoolLaws.{told_yes, told_no}
+use Rattle.meaning.proofs.Laws.BoolLaws.{told_yes, told_no}
 use Rattle.meaning.specs.Rules.Kinds.{cycle_word}
 use Rattle.meaning.specs.Rules.Layout.{layout_fault, laid_out, children_below}
 use Rattle.meaning.specs.Rules.Refusals.{every}

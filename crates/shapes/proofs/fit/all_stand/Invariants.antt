@@ -6,7 +6,7 @@ use lib.ListN.{length, drop}
 use lib.Dec.{eqb, ltb}
 use borrow.Author.Rules.{rules}
 use native.Mathlib.Omega.{arith}
-use Rattle.meaning.specs.Laws.BoolLaws.{told_no, told_yes}
+use Rattle.meaning.proofs.Laws.BoolLaws.{told_no, told_yes}
 use Rattle.meaning.specs.Rules.Evaluable.{Shape, bit, nth_shape}
 use Rattle.meaning.specs.Rules.Refusals.{every}
 use Rattle.lists.specs.Scan.{every_stop, every_more, every_done}

@@ -5,7 +5,7 @@ use Prim.Native.Nat.{ℕ, ◌≤◌, ◌<◌}
 use lib.Dec.{eqb}
 use borrow.Author.Rules.{rules}
 use native.Mathlib.Omega.{arith}
-use Rattle.meaning.specs.Laws.BoolLaws.{told_no, told_yes}
+use Rattle.meaning.proofs.Laws.BoolLaws.{told_no, told_yes}
 use Rattle.meaning.specs.Claims.Column.{WellLaid}
 use Rattle.meaning.specs.Rules.Evaluable.{fits, is_root}
 use Rattle.meaning.specs.Rules.Reach.{mark_of}

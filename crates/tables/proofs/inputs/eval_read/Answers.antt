@@ -2,9 +2,9 @@
 use Prim.Native.Nat.{ℕ}
 use native.Mathlib.Omega.{arith}
 use borrow.Author.Rules.{rules}
-use Rattle.meaning.specs.Laws.BoolLaws.{told_yes, told_no}
+use Rattle.meaning.proofs.Laws.BoolLaws.{told_yes, told_no}
 use Rattle.tables.specs.Inputs.{bit_told}
-use Rattle.meaning.specs.Laws.WordLaws.{bit_lt}
+use Rattle.meaning.proofs.Laws.WordLaws.{bit_lt}
 use Rattle.meaning.specs.Rules.Words.{bit_at}
 use Rattle.meaning.specs.Rules.Tables as meant
 use Rattle.tables.specs.Inputs.{read_in, row_in_word}

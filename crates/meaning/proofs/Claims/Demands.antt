@@ -1,0 +1,96 @@
+-- The customer's demands, as theorems about the outcomes of Rules/Calls, in the customer's words (Claims/Terms has them).
+use Rattle.std.specs.Prelude.{ℕ, ◌≤◌, ◌<◌, ◌≡◌, ◌↔◌, ◌⊎◌, ◌≢◌, List, true, length, replicate}
+use Rattle.meaning.specs.declared.Check.TheVariants.{Equiv}
+use Rattle.meaning.specs.declared.Judgement.TheVariants.{Separate}
+use Rattle.meaning.specs.declared.Refusal.{Refusal}
+use Rattle.meaning.specs.Rules.Limits.{most_inputs}
+use Rattle.meaning.specs.Rules.Kinds.{kind_of, is_plain}
+use Rattle.meaning.specs.Rules.Trees.{node_count, kind_at, root_of}
+use Rattle.meaning.specs.Rules.Refusals.{work_after}
+use Rattle.meaning.specs.Rules.Layout.{work_for}
+use Rattle.meaning.specs.Rules.Reach.{reachable}
+use Rattle.meaning.specs.Rules.Assignments.{inputs}
+use Rattle.meaning.specs.Rules.Pairs.{pairs}
+use Rattle.meaning.specs.Rules.Canonical.{canonical_nodes, canonical_pool}
+use Rattle.meaning.specs.Rules.Calls.{evaluate_refusal, evaluation, evaluate, compare, canonical_refusal, canonical, canonicalise, separate}
+use Rattle.meaning.specs.Claims.Terms.{EverywhereEqual, Decided, NoCrossing, Crosses}
+use Rattle.meaning.proofs.Laws.RefusalLaws.{refused_output, work_kept, work_cleared}
+use Rattle.meaning.proofs.Laws.ComparisonLaws.{equiv_exactly, otherwise_lowest, compared_trees, few_inputs}
+use Rattle.meaning.proofs.Laws.SeparationLaws.{separate_exactly, otherwise_crossing, judged_tree, judged_marks}
+use Rattle.meaning.proofs.Laws.KeptLaws.{kept_judgement}
+
+-- ==== Demand 1: "Every entry point takes any words at all, ends, and answers": each outcome of Rules/Calls is a function of
+-- the words that came in, so it is there for any words, and Claims/Only says that no second one meets the contract. "Bad
+-- input gets a numbered refusal": Claims/Numbers. "and a refused call has changed no buffer it was lent but scratch":
+
+pub demand_1_evaluate : (ns ps bytes work out : List ℕ)
+    → (evaluate ns ps bytes work out).answer.refusal.number ≢ 0 → (evaluate ns ps bytes work out).out ≡ out
+unfolding evaluate evaluation
+demand_1_evaluate ns ps bytes work out h = refused_output (evaluate_refusal ns ps bytes (length work) (length out)) (pairs ns ps bytes) out h
+
+pub demand_1_canonicalise : (ns ps work out_nodes out_pool : List ℕ)
+    → (canonicalise ns ps work out_nodes out_pool).answer.refusal.number ≢ 0
+    → ((canonicalise ns ps work out_nodes out_pool).out_nodes ≡ out_nodes) × ((canonicalise ns ps work out_nodes out_pool).out_pool ≡ out_pool)
+unfolding canonicalise canonical
+demand_1_canonicalise ns ps work out_nodes out_pool h =
+    let r = canonical_refusal ns ps (length work) (length out_nodes) (length out_pool) in
+    (refused_output r (canonical_nodes ns ps) out_nodes h, refused_output r (canonical_pool ns ps) out_pool h)
+
+-- (writing a verdict's name: Claims/Tables, `display_kept`)
+
+-- scratch: "unchanged if 1, 2 or 10 refuses, else all zeros", of any call
+pub scratch_kept : (r : Refusal) (work : List ℕ) → (r.number ≡ 1) ⊎ (r.number ≡ 2) ⊎ (r.number ≡ 10) → work_after r work ≡ work
+scratch_kept = work_kept
+
+pub scratch_cleared : (r : Refusal) (work : List ℕ) → r.number ≢ 1 → r.number ≢ 2 → r.number ≢ 10 → work_after r work ≡ replicate (length work) 0
+scratch_cleared = work_cleared
+
+-- ==== Demand 2: a comparison of two lists that is not refused
+module _ (ns ps ms qs work : List ℕ) (done : (compare ns ps ms qs work).answer.refusal.number ≡ 0) where
+  -- "Equiv exactly if the two terms are the same tree or every assignment of the first root's inputs gives both roots one
+  -- equal value"
+  pub demand_2_equiv :
+      ((compare ns ps ms qs work).answer.verdict ≡ Equiv)
+      ↔ ((root_of ns ps ≡ root_of ms qs) ⊎ EverywhereEqual (root_of ns ps) (root_of ms qs))
+  unfolding compare
+  demand_2_equiv = rw (compared_trees ns ps ms qs (length work) done) (equiv_exactly (root_of ns ps) (root_of ms qs))
+
+  -- "at most 30"
+  pub demand_2_thirty : root_of ns ps ≢ root_of ms qs → length (inputs (root_of ns ps)) ≤ most_inputs
+  unfolding compare
+  demand_2_thirty = few_inputs ns ps ms qs (length work) done
+
+  -- "Otherwise the lowest assignment failing that decides: NotEquiv if both have values there, else Inconclusive"
+  pub demand_2_otherwise :
+      (compare ns ps ms qs work).answer.verdict ≢ Equiv
+      → Decided (root_of ns ps) (root_of ms qs) (compare ns ps ms qs work).answer
+  unfolding compare
+  demand_2_otherwise = rw (compared_trees ns ps ms qs (length work) done) (otherwise_lowest (root_of ns ps) (root_of ms qs))
+
+-- ==== Demand 3: a separation that is not refused
+module _ (ns ps : List ℕ) (n run : ℕ) (work : List ℕ) (done : (separate ns ps n run work).answer.refusal.number ≡ 0) where
+  -- "Separate exactly when any two assignments that agree on all unmarked variables give the root the same answer, value or
+  -- named failure"
+  pub demand_3_separate : ((separate ns ps n run work).answer.judgement ≡ Separate) ↔ NoCrossing (root_of ns ps) n run
+  unfolding separate
+  demand_3_separate =
+      rw (judged_tree ns ps n run (length work) done) (separate_exactly (root_of ns ps) n run (judged_marks ns ps n run (length work) done))
+
+  -- "Otherwise we name the lowest assignment that answers differently from itself with its run bits cleared"
+  pub demand_3_otherwise :
+      (separate ns ps n run work).answer.judgement ≢ Separate → Crosses (root_of ns ps) n run (separate ns ps n run work).answer
+  unfolding separate
+  demand_3_otherwise =
+      rw (judged_tree ns ps n run (length work) done) (otherwise_crossing (root_of ns ps) n run (judged_marks ns ps n run (length work) done))
+
+-- "If no don't-care, register or ARG node is the root or lies below it and the canonicaliser accepts the list, its canonical
+-- list, lent work space enough for its own size, gets the same judgement and assignment": it gets the whole same answer
+pub demand_3_canonical : (ns ps : List ℕ) (n run : ℕ) (work work₂ out_nodes out_pool work₃ : List ℕ)
+    → (separate ns ps n run work).answer.refusal.number ≡ 0
+    → (canonicalise ns ps work₂ out_nodes out_pool).answer.refusal.number ≡ 0
+    → ((i : ℕ) → i < node_count ns → reachable ns ps i ≡ true → is_plain (kind_of (kind_at ns i)) ≡ true)
+    → work_for (canonical_nodes ns ps) (canonical_pool ns ps) ≤ length work₃
+    → (separate (canonical_nodes ns ps) (canonical_pool ns ps) n run work₃).answer ≡ (separate ns ps n run work).answer
+unfolding separate canonicalise canonical
+demand_3_canonical ns ps n run work work₂ out_nodes out_pool work₃ =
+    kept_judgement ns ps n run (length work) (length work₂) (length out_nodes) (length out_pool) (length work₃)
