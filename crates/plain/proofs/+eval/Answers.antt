@@ -11,7 +11,8 @@ use Rattle.meaning.specs.declared.Answer.{Answer}
 use Rattle.operators.specs.Folds.{row_start, row_more, row_fails, row_done, row_lt, bus_start, bus_more, bus_done}
 use Rattle.operators.specs.Widths.{Held, held_more, held_lt}
 use Rattle.accepted.specs.Nodes.{answers_at, answer_is, children_length}
-use Rattle.accepted.specs.Operands.{Operand, fixed, lut_takes, bus_takes, bus_size, answers_size, held_operand, lut_operand, bus_member, nor_operands, lut_children, lut_program, mux_failed, mux_arm, arm_lt, registers, two_takes, left_is_xor}
+use Rattle.accepted.proofs.Operands.{lut_takes, held_operand}
+use Rattle.accepted.specs.Operands.{fixed, bus_takes, bus_size, answers_size, lut_operand, bus_member, nor_operands, lut_children, lut_program, mux_failed, mux_arm, arm_lt, registers, two_takes, left_is_xor}
 use Rattle.plain.proofs.+eval.Goals as goal
 use Rattle.plain.proofs.+eval.Goals.{eval_bus-After-count_of-count, eval_bus-After-eval_rec-x, eval_lut-After-eval_rec-x}
 

@@ -1,6 +1,7 @@
 -- `answer_of` meets its contract: arm by arm, each its clause of `step` over the operands' answers.
 use Rattle.meaning.specs.Rules.Kinds.{Kind, kind_of}
-use Rattle.accepted.specs.Operands.{fixed, held_operand, nor_operands, registers}
+use Rattle.accepted.proofs.Operands.{held_operand}
+use Rattle.accepted.specs.Operands.{fixed, nor_operands, registers}
 use Rattle.accepted.specs.Nodes.{answers_at, answer_is}
 use Rattle.meaning.specs.Rules.Assignments.{given}
 use Rattle.meaning.specs.Rules.Answers.{step, and_of, nor_of, xor_of, not_of}
