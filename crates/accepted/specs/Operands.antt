@@ -1,5 +1,6 @@
--- What an evaluator asks at each kind of a list past number 8: which children it reads as operands, that each of them has an
--- answer, and how wide those answers are.
+-- What an evaluator asks at each kind of a list past number 8: which children it reads as operands, and how wide their answers
+-- are. What rests on a Lut's first child being no operand is in proofs/Operands: which operands a Lut has, and that each
+-- operand has an answer.
 use Rattle.std.specs.Prelude.{ℕ, zero, suc, ◌^◌, ◌≤◌, ◌<◌, ◌≡◌, refl, ◌≢◌, ◌⊎◌, List, [], ◌∷◌, Bool, true, false, cond, not, ◌&&◌, ◌||◌, length, drop, ltb, leb, eqb}
 use Rattle.std.proofs.Math.Path.{sym}
 use Rattle.std.proofs.Common.{subst, ◌∙◌, ⊎_elim, arith, eqb-true, ltb-true, ltb-false, lt-ltb, leb-true}
@@ -62,7 +63,7 @@ pub record Child (ns ps : List ℕ) (n i c : ℕ) : Type 0 where
   pub read : (α : Assignment) → answer α (tree_of ns ps c) ≡ nth (answers_at ns ps α n) i
 
 -- ---- each operand is a bit or a bus
-bit_logic : (s : Shape) → is_bit s ≡ true → is_logic s ≡ true
+pub bit_logic : (s : Shape) → is_bit s ≡ true → is_logic s ≡ true
 bit_logic s h = rw (bit_code s h)
 
 both_logic : (s t : Shape) → alike s t ≡ true → (is_logic s ≡ true) × (is_logic t ≡ true)
@@ -70,16 +71,16 @@ both_logic s t h =
     let p = alike_pair s t h in
     (p.logic, subst (λ (u : Shape). is_logic u ≡ true) p.one p.logic)
 
-pair_logic : (ss : List Shape) (i : ℕ) → i < 2 → alike (nth_shape ss 0) (nth_shape ss 1) ≡ true → is_logic (nth_shape ss i) ≡ true
+pub pair_logic : (ss : List Shape) (i : ℕ) → i < 2 → alike (nth_shape ss 0) (nth_shape ss 1) ≡ true → is_logic (nth_shape ss i) ≡ true
 pair_logic ss zero h f = (both_logic (nth_shape ss 0) (nth_shape ss 1) f).0
 pair_logic ss (suc zero) h f = (both_logic (nth_shape ss 0) (nth_shape ss 1) f).1
 pair_logic ss (suc (suc i)) h f = absurd (omega arith)
 
-only_logic : (ss : List Shape) (i : ℕ) → i < 1 → is_logic (nth_shape ss 0) ≡ true → is_logic (nth_shape ss i) ≡ true
+pub only_logic : (ss : List Shape) (i : ℕ) → i < 1 → is_logic (nth_shape ss 0) ≡ true → is_logic (nth_shape ss i) ≡ true
 only_logic ss zero h f = f
 only_logic ss (suc i) h f = absurd (omega arith)
 
-mux_logic : (ss : List Shape) (i : ℕ) → i < 3 → fits Mux ss ≡ true → is_logic (nth_shape ss i) ≡ true
+pub mux_logic : (ss : List Shape) (i : ℕ) → i < 3 → fits Mux ss ≡ true → is_logic (nth_shape ss i) ≡ true
 mux_logic ss zero h f = bit_logic (nth_shape ss 0) (and_left (is_bit (nth_shape ss 0)) (alike (nth_shape ss 1) (nth_shape ss 2)) f)
 mux_logic ss (suc zero) h f =
     (both_logic (nth_shape ss 1) (nth_shape ss 2) (and_right (is_bit (nth_shape ss 0)) (alike (nth_shape ss 1) (nth_shape ss 2)) f)).0
@@ -87,27 +88,10 @@ mux_logic ss (suc (suc zero)) h f =
     (both_logic (nth_shape ss 1) (nth_shape ss 2) (and_right (is_bit (nth_shape ss 0)) (alike (nth_shape ss 1) (nth_shape ss 2)) f)).1
 mux_logic ss (suc (suc (suc i))) h f = absurd (omega arith)
 
-lut_bit : (ss : List Shape) (i : ℕ) → 0 < i → i < length ss → every is_bit (drop 1 ss) ≡ true → is_bit (nth_shape ss i) ≡ true
+pub lut_bit : (ss : List Shape) (i : ℕ) → 0 < i → i < length ss → every is_bit (drop 1 ss) ≡ true → is_bit (nth_shape ss i) ≡ true
 lut_bit [] i h l f = absurd (omega arith)
 lut_bit (s ∷ ss) zero h l f = absurd (omega arith)
 lut_bit (s ∷ ss) (suc i) h l f = every_nth bit is_bit ss i f (omega arith)
-
-operand_logic : (κ : Kind) (ss : List Shape) (i : ℕ) → takes κ i ≡ true → fits κ ss ≡ true → i < length ss → is_logic (nth_shape ss i) ≡ true
-operand_logic Const ss i t f l = absurd (true_false t refl)
-operand_logic Program ss i t f l = absurd (true_false t refl)
-operand_logic DC ss i t f l = absurd (true_false t refl)
-operand_logic Var ss i t f l = absurd (true_false t refl)
-operand_logic Nor ss i t f l = pair_logic ss i (ltb-true i 2 t) f
-operand_logic Mux ss i t f l = mux_logic ss i (ltb-true i 3 t) f
-operand_logic And ss i t f l = pair_logic ss i (ltb-true i 2 t) f
-operand_logic Xor ss i t f l = pair_logic ss i (ltb-true i 2 t) f
-operand_logic Not ss i t f l = only_logic ss i (ltb-true i 1 t) f
-operand_logic Lut ss i t f l = bit_logic (nth_shape ss i) (lut_bit ss i (ltb-true 0 i t) l f)
-operand_logic Bus ss i t f l = bit_logic (nth_shape ss i) (every_nth bit is_bit ss i f l)
-operand_logic Reg ss i t f l = absurd (true_false t refl)
-operand_logic Arg ss i t f l = absurd (true_false t refl)
-operand_logic Cycle ss i t f l = only_logic ss i (ltb-true i 1 t) f
-operand_logic Unknown ss i t f l = absurd (true_false t refl)
 
 -- ---- what verification says of a Lut's children
 record LutParts (ts : List Tree) : Type 0 where
@@ -147,7 +131,7 @@ takes_parent (suc (suc (suc zero))) i t = absurd (true_false t refl)
 takes_parent (suc (suc (suc (suc k)))) i t = omega arith
 
 module _ (ns ps : List ℕ) (s : Sound ns ps) (n : ℕ) where
-  -- ---- which operands there are: of a kind whose child count is m, those below m; of a Lut all but the first; of a Bus all
+  -- ---- which operands there are: of a kind whose child count is m, those below m; of a Bus all; a Lut's are in proofs/Operands
   pub fixed : n < node_count ns → (k m i : ℕ) → kind_at ns n ≡ k → ((c : ℕ) → may_have (kind_of k) c ≡ eqb c m) → takes (kind_of k) i ≡ true → i < m
       → Operand ns ps n i
   fixed l k m i e count t h =
@@ -161,9 +145,6 @@ module _ (ns ps : List ℕ) (s : Sound ns ps) (n : ℕ) where
       ⊎_elim (λ e. fixed l 4 2 i e (λ c. refl) below h)
       (⊎_elim (λ e. fixed l 6 2 i e (λ c. refl) below h) (λ e. fixed l 7 2 i e (λ c. refl) below h)) two
 
-  pub lut_takes : (i : ℕ) → kind_at ns n ≡ lut_word → 0 < i → i < length (children_at ns ps n) → Operand ns ps n i
-  lut_takes i e h l = record { inside = l; used = rw e (lt-ltb 0 i h) }
-
   pub bus_takes : (i : ℕ) → kind_at ns n ≡ bus_word → i < length (children_at ns ps n) → Operand ns ps n i
   bus_takes i e l = record { inside = l; used = rw e }
 
@@ -176,49 +157,16 @@ module _ (ns ps : List ℕ) (s : Sound ns ps) (n : ℕ) where
   answers_size α = answers_length (tree_of ns ps) α (children_at ns ps n)
 
   module _ (g : Logic ns ps n) where
-    shape_at : (i : ℕ) → i < length (children_at ns ps n) → i < length (shapes_at ns ps n)
+    pub shape_at : (i : ℕ) → i < length (children_at ns ps n) → i < length (shapes_at ns ps n)
     unfolding shapes_at
     shape_at i h = rw (shapes_length (tree_of ns ps) (children_at ns ps n)) h
 
-    logic_at : (i : ℕ) → Operand ns ps n i → is_logic (nth_shape (shapes_at ns ps n) i) ≡ true
-    logic_at i o =
-        operand_logic (kind_of (kind_at ns n)) (shapes_at ns ps n) i o.used (fitting ns ps s n g.inside g.marked) (shape_at i o.inside)
-
-    child_logic : (i : ℕ) → Operand ns ps n i → is_logic (shape (tree_of ns ps (get_or (children_at ns ps n) i 0))) ≡ true
-    unfolding shapes_at
-    child_logic i o = rw (nth_shape_lem (tree_of ns ps) (children_at ns ps n) i o.inside) at (logic_at i o)
-
-    -- what the reader of operand i has
-    pub child_of : (i c : ℕ) → Operand ns ps n i → c ≡ get_or (children_at ns ps n) i 0 → Child ns ps n i c
-    unfolding answers_at
-    child_of i c o e =
-        let below = child_below ns ps s n g.inside i o.inside in
-        let inside : get_or (children_at ns ps n) i 0 < node_count ns = omega (arith, g.inside, below) in
-        let logic = child_logic i o in
-        rw e (record {
-          is = refl;
-          below = below;
-          logic = record {
-            inside = inside;
-            marked = child_marked ns ps s n g.inside g.marked i o.inside;
-            no_program = logic_kind ns ps s (get_or (children_at ns ps n) i 0) inside logic;
-          };
-          shaped = logic;
-          read = λ α. sym (nth_answer (tree_of ns ps) α (children_at ns ps n) i o.inside);
-        })
-
     -- ---- how wide the operands' answers are
     module _ (α : Assignment) where
-      fine_child : (i : ℕ) → i < length (shapes_at ns ps n) → Fine (nth_shape (shapes_at ns ps n) i) (nth (answers_at ns ps α n) i)
+      pub fine_child : (i : ℕ) → i < length (shapes_at ns ps n) → Fine (nth_shape (shapes_at ns ps n) i) (nth (answers_at ns ps α n) i)
       fine_child =
           children_fine ns ps s α n (λ i k.
           fine_at ns ps s α (get_or (children_at ns ps n) i 0) (omega (arith, g.inside, child_below ns ps s n g.inside i k)) (child_marked ns ps s n g.inside g.marked i k))
-
-      -- Not: a word holds the operand
-      pub held_operand : (i : ℕ) → Operand ns ps n i → Held widest_bus (nth (answers_at ns ps α n) i)
-      held_operand i o =
-          let f = fine_child i (shape_at i o.inside) (logic_at i o) in
-          held (width_of (nth_shape (shapes_at ns ps n) i)) widest_bus (nth (answers_at ns ps α n) i) f.0 f.1
 
       bit_operand : (i : ℕ) → i < length (shapes_at ns ps n) → is_bit (nth_shape (shapes_at ns ps n) i) ≡ true → Held 1 (nth (answers_at ns ps α n) i)
       bit_operand i l b =

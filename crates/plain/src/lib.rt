@@ -18,7 +18,7 @@ use nodes::{count_of, kind_of};
 use operators::{and_of, arm_of, bus_step, nor_of, not_of, row_bit, xor_of};
 
 // Inner: the answer of node n, a reachable one that is no Program, of a list past number 8.
-#[cycle(eval_bus_eval_gate_eval_lut_eval_mux_eval_rec)]
+#[cycle(eval)]
 pub fn eval_rec(nodes: &[u32], pool: &[u32], bytes: &[u8], n: usize) -> Answer
     requires sound { Sound nodes.now pool.now }
     requires logic { Logic nodes.now pool.now n }
@@ -41,7 +41,7 @@ pub fn eval_rec(nodes: &[u32], pool: &[u32], bytes: &[u8], n: usize) -> Answer
 }
 
 // Nor, And and Xor: both operands are looked at, then the operator decides.
-#[cycle(eval_bus_eval_gate_eval_lut_eval_mux_eval_rec)]
+#[cycle(eval)]
 fn eval_gate(nodes: &[u32], pool: &[u32], bytes: &[u8], n: usize) -> Answer
     requires sound { Sound nodes.now pool.now }
     requires logic { Logic nodes.now pool.now n }
@@ -58,7 +58,7 @@ fn eval_gate(nodes: &[u32], pool: &[u32], bytes: &[u8], n: usize) -> Answer
 }
 
 // "Mux: the selector's failure; else s = 1 answers as a, s = 0 as b, and the other arm is not looked at"
-#[cycle(eval_bus_eval_gate_eval_lut_eval_mux_eval_rec)]
+#[cycle(eval)]
 fn eval_mux(nodes: &[u32], pool: &[u32], bytes: &[u8], n: usize) -> Answer
     requires sound { Sound nodes.now pool.now }
     requires logic { Logic nodes.now pool.now n }
@@ -73,7 +73,7 @@ fn eval_mux(nodes: &[u32], pool: &[u32], bytes: &[u8], n: usize) -> Answer
 }
 
 // "Lut: the first operand is the most significant bit of the row number"; the first failing operand ends it.
-#[cycle(eval_bus_eval_gate_eval_lut_eval_mux_eval_rec)]
+#[cycle(eval)]
 fn eval_lut(nodes: &[u32], pool: &[u32], bytes: &[u8], n: usize) -> Answer
     requires sound { Sound nodes.now pool.now }
     requires logic { Logic nodes.now pool.now n }
@@ -93,7 +93,7 @@ fn eval_lut(nodes: &[u32], pool: &[u32], bytes: &[u8], n: usize) -> Answer
 }
 
 // "Bus: the last failing member; otherwise its last member is bit 0"
-#[cycle(eval_bus_eval_gate_eval_lut_eval_mux_eval_rec)]
+#[cycle(eval)]
 fn eval_bus(nodes: &[u32], pool: &[u32], bytes: &[u8], n: usize) -> Answer
     requires sound { Sound nodes.now pool.now }
     requires logic { Logic nodes.now pool.now n }

@@ -15,7 +15,7 @@ unfolding datum_at
 returns-in-0 c =
     λ xs.
     let ns : List ℕ = c.args.nodes.now in
-    let kind : kind_at ns c.args.n ≡ 0 = sym c.kind_of.ensures ∙ c.in-0.keys1 in
+    let kind : kind_at ns c.args.n ≡ 0 = sym c.kind_of.ensures ∙ c.in-0.is in
     rw kind (ap (Value 1) c.first_of-first.ensures.0)
 
 pub returns-in-2 : goal.returns-in-2
@@ -23,7 +23,7 @@ unfolding datum_at
 returns-in-2 c =
     λ xs.
     let ns : List ℕ = c.args.nodes.now in
-    let kind : kind_at ns c.args.n ≡ 2 = sym c.kind_of.ensures ∙ c.in-2.keys2 in
+    let kind : kind_at ns c.args.n ≡ 2 = sym c.kind_of.ensures ∙ c.in-2.is in
     rw kind
 
 pub returns-in_default : goal.returns-in_default
@@ -31,7 +31,7 @@ unfolding datum_at
 returns-in_default c =
     λ xs.
     let ns : List ℕ = c.args.nodes.now in
-    let kind : kind_at ns c.args.n ≡ 3 = omega (arith, c.kind_of.ensures, c.in_default.rest.1, c.in_default.rest.0.1, c.requires.n_nonzero, c.requires.n_bound_2) in
+    let kind : kind_at ns c.args.n ≡ 3 = omega (arith, c.kind_of.ensures, c.requires.n_nonzero, c.requires.n_bound_2) in
     let bytes : List ℕ = c.args.bytes.now in
     let byte : c.byte_of.result ≡ given bytes (first_at ns c.args.n) = c.byte_of.ensures ∙ ap (given bytes) c.first_of-first.ensures.0 in
     rw kind (c.driven_by.ensures ∙ ap driven byte)

@@ -1,5 +1,5 @@
 -- `operand` meets its contract: the child is there, since it is an operand (`child_of`).
-use Rattle.accepted.specs.Operands.{child_of}
+use Rattle.accepted.proofs.Operands.{child_of}
 use Rattle.lists.specs.Laid.{part_fits}
 use lib.ListN.{length}
 use Prim.Native.Nat.{◌<◌}

@@ -3,7 +3,7 @@ use borrow.Author.Rules.{rules}
 use Rattle.answer_words.proofs.words_of.Goals as goal
 
 pub returns-in-Value : goal.returns-in-Value
-returns-in-Value c = rw c.answer-1.given.1
+returns-in-Value c = rw c.in-Value.is
 
 pub returns-in-Failed : goal.returns-in-Failed
-returns-in-Failed c = rw (c.answer-in-Failed-1.given.1, c.failure_number.ensures)
+returns-in-Failed c = rw (c.in-Failed.is, c.failure_number.ensures)

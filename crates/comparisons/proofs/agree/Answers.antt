@@ -4,4 +4,4 @@ use borrow.Author.Rules.{rules}
 use Rattle.comparisons.proofs.agree.Goals as goal
 
 pub returns : goal.returns
-returns c = c.is_value.ensures ∙ rw c.first-1.given.1 refl
+returns c = c.is_value.ensures ∙ rw c.in-Value.is refl

@@ -5,7 +5,7 @@ use borrow.Author.Rules.{rules}
 use Rattle.comparisons.proofs.is_value.Goals as goal
 
 pub returns-then-width-w : goal.returns-then-width-w
-returns-then-width-w c = rw (c.answer-1.given.1, eq-eqb c.args.width c.answer-1.given.0.0 c.if-width-w.true) refl
+returns-then-width-w c = rw (c.in-Value.is, eq-eqb c.args.width c.in-Value.w c.if-width-w.true) refl
 
 pub returns-else-width-w : goal.returns-else-width-w
-returns-else-width-w c = rw (c.answer-1.given.1, ne_eqb c.args.width c.answer-1.given.0.0 c.if-width-w.false) refl
+returns-else-width-w c = rw (c.in-Value.is, ne_eqb c.args.width c.in-Value.w c.if-width-w.false) refl

@@ -3,13 +3,13 @@ use borrow.Author.Rules.{rules}
 use Rattle.operators.proofs.and_of.Goals as goal
 
 pub returns-in-Value-y : goal.returns-in-Value-y
-returns-in-Value-y c = simp (c.x-1.given.1, c.y-1.given.1)
+returns-in-Value-y c = simp (c.in-Value.is, c.in-Value-y.is)
 
 pub returns-in-Failed-y : goal.returns-in-Failed-y
-returns-in-Failed-y c = simp (c.x-1.given.1, c.y-in-Value-1.given.1, c.zeros_or.ensures)
+returns-in-Failed-y c = simp (c.in-Value.is, c.in-Failed-y.is, c.zeros_or.ensures)
 
 pub returns-in-Value-y-2 : goal.returns-in-Value-y-2
-returns-in-Value-y-2 c = simp (c.x-in-Failed-x-1.given.1, c.y-in-Failed-1.given.1, c.zeros_or-in-Value-y-2.ensures)
+returns-in-Value-y-2 c = simp (c.in-Failed.is, c.in-Value-y-2.is, c.zeros_or-in-Value-y-2.ensures)
 
 pub returns-in-Failed-y-2 : goal.returns-in-Failed-y-2
-returns-in-Failed-y-2 c = simp (c.x-in-Failed-x-1.given.1, c.y-in-Failed-2-1.given.1)
+returns-in-Failed-y-2 c = simp (c.in-Failed.is, c.in-Failed-y-2.is)

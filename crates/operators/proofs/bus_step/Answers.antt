@@ -6,13 +6,13 @@ use borrow.Author.Rules.{rules}
 use Rattle.operators.proofs.bus_step.Goals as goal
 
 pub overflow_add-result : goal.overflow_add-result
-overflow_add-result c = omega (arith, (held_value 63 _ _ c.args.bus c.requires.held c.bus-1.given.1).0)
+overflow_add-result c = omega (arith, (held_value 63 _ _ c.args.bus c.requires.held c.in-Value-bus.is).0)
 
 pub overflow_mul-result : goal.overflow_mul-result
-overflow_mul-result c = omega (arith, held_lt 63 _ _ c.args.bus c.requires.held c.bus-1.given.1)
+overflow_mul-result c = omega (arith, held_lt 63 _ _ c.args.bus c.requires.held c.in-Value-bus.is)
 
 pub overflow_add-result-2 : goal.overflow_add-result-2
-overflow_add-result-2 c = omega (arith, held_lt 63 _ _ c.args.bus c.requires.held c.bus-1.given.1, held_lt 1 _ _ c.args.member c.requires.held_2 c.member-1.given.1)
+overflow_add-result-2 c = omega (arith, held_lt 63 _ _ c.args.bus c.requires.held c.in-Value-bus.is, held_lt 1 _ _ c.args.member c.requires.held_2 c.in-Value.is)
 
 pub returns : goal.returns
-returns c = simp (c.bus-1.given.1, c.member-1.given.1, add-one)
+returns c = simp (c.in-Value-bus.is, c.in-Value.is, add-one)

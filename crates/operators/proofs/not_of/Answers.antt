@@ -6,10 +6,10 @@ use borrow.Author.Rules.{rules}
 use Rattle.operators.proofs.not_of.Goals as goal
 
 pub ones_of-requires : goal.ones_of-requires
-ones_of-requires c = (held_value widest_bus _ _ c.args.x c.requires c.x-1.given.1).0
+ones_of-requires c = (held_value widest_bus _ _ c.args.x c.requires c.in-Value.is).0
 
 pub overflow_sub-result : goal.overflow_sub-result
-overflow_sub-result c = omega (arith, c.ones_of.ensures, (held_value widest_bus _ _ c.args.x c.requires c.x-1.given.1).1)
+overflow_sub-result c = omega (arith, c.ones_of.ensures, (held_value widest_bus _ _ c.args.x c.requires c.in-Value.is).1)
 
 pub returns : goal.returns
-returns c = simp (c.x-1.given.1, c.ones_of.ensures)
+returns c = simp (c.in-Value.is, c.ones_of.ensures)

@@ -5,7 +5,7 @@ use borrow.Author.Rules.{rules}
 use Rattle.operators.proofs.xor_of.Goals as goal
 
 pub returns-in_default : goal.returns-in_default
-returns-in_default c = c.enum_told-1.given.1 ∙ sym (rw c.enum_told-1.given.1 (xor_first _ c.args.y))
+returns-in_default c = c.in_default.is ∙ sym (rw c.in_default.is (xor_first _ c.args.y))
 
 pub returns : goal.returns
-returns c = simp (c.x-1.given.1, c.y-1.given.1)
+returns c = simp (c.in-Value.is, c.in-Value-y.is)

@@ -1,5 +1,6 @@
 -- `lut_at` meets its contract: the loop has gathered the row before it (`RowTo`); a failing operand ends it.
-use Rattle.accepted.specs.Operands.{lut_takes, answers_size, lut_operand, lut_children, lut_program}
+use Rattle.accepted.proofs.Operands.{lut_takes}
+use Rattle.accepted.specs.Operands.{answers_size, lut_operand, lut_children, lut_program}
 use Rattle.accepted.specs.Nodes.{answers_at, answer_is, children_length}
 use Rattle.operators.specs.Folds.{RowTo, row_start, row_more, row_fails, row_done, row_lt}
 use Rattle.operators.specs.Widths.{held_lt}
@@ -31,7 +32,7 @@ pub returns-in_default : goal.returns-in_default
 returns-in_default c =
     let α = given c.args.bytes.now in
     let xs = answers_at c.args.nodes.now c.args.pool.now α c.args.n in
-    row_fails xs (value_of (nth xs 0)) c.loop-i.i c.loop-i.row c.operand_answer-x.result _ (rw (answers_size c.args.nodes.now c.args.pool.now c.requires.filled.ready.sound c.args.n α) (omega (arith, c.loop-i.invariant.2))) c.loop-i.invariant.3 c.operand_answer-x.ensures c.enum_told-1.given.1 ∙ sym (answer_is c.args.nodes.now c.args.pool.now c.requires.filled.ready.sound c.args.n c.requires.logic.inside α 9 c.requires.n_value)
+    row_fails xs (value_of (nth xs 0)) c.loop-i.i c.loop-i.row c.operand_answer-x.result _ (rw (answers_size c.args.nodes.now c.args.pool.now c.requires.filled.ready.sound c.args.n α) (omega (arith, c.loop-i.invariant.2))) c.loop-i.invariant.3 c.operand_answer-x.ensures c.in_default.is ∙ sym (answer_is c.args.nodes.now c.args.pool.now c.requires.filled.ready.sound c.args.n c.requires.logic.inside α 9 c.requires.n_value)
 
 pub overflow_mul-row : goal.overflow_mul-row
 overflow_mul-row c = omega (arith, row_lt (answers_at c.args.nodes.now c.args.pool.now (given c.args.bytes.now) c.args.n) c.loop-i.i c.loop-i.row (omega (arith, c.loop-i.invariant.1, c.loop-i.invariant.2, (lut_children c.args.nodes.now c.args.pool.now c.requires.filled.ready.sound c.args.n c.requires.logic c.requires.n_value).few)) c.loop-i.invariant.3)
@@ -39,12 +40,12 @@ overflow_mul-row c = omega (arith, row_lt (answers_at c.args.nodes.now c.args.po
 pub overflow_add-row : goal.overflow_add-row
 overflow_add-row c =
     let α = given c.args.bytes.now in
-    omega (arith, row_lt (answers_at c.args.nodes.now c.args.pool.now α c.args.n) c.loop-i.i c.loop-i.row (omega (arith, c.loop-i.invariant.1, c.loop-i.invariant.2, (lut_children c.args.nodes.now c.args.pool.now c.requires.filled.ready.sound c.args.n c.requires.logic c.requires.n_value).few)) c.loop-i.invariant.3, held_lt 1 _ _ c.operand_answer-x.result (rw c.operand_answer-x.ensures (lut_operand c.args.nodes.now c.args.pool.now c.requires.filled.ready.sound c.args.n c.requires.logic α c.loop-i.i c.requires.n_value c.loop-i.invariant.0 (omega (arith, c.loop-i.invariant.2)))) c.x-1.given.1)
+    omega (arith, row_lt (answers_at c.args.nodes.now c.args.pool.now α c.args.n) c.loop-i.i c.loop-i.row (omega (arith, c.loop-i.invariant.1, c.loop-i.invariant.2, (lut_children c.args.nodes.now c.args.pool.now c.requires.filled.ready.sound c.args.n c.requires.logic c.requires.n_value).few)) c.loop-i.invariant.3, held_lt 1 _ _ c.operand_answer-x.result (rw c.operand_answer-x.ensures (lut_operand c.args.nodes.now c.args.pool.now c.requires.filled.ready.sound c.args.n c.requires.logic α c.loop-i.i c.requires.n_value c.loop-i.invariant.0 (omega (arith, c.loop-i.invariant.2)))) c.in-Value.is)
 
 pub loop-i-preserved : goal.loop-i-preserved
 loop-i-preserved c =
     let α = given c.args.bytes.now in
-    (omega arith, omega arith, c.loop-i.invariant.2, row_more (answers_at c.args.nodes.now c.args.pool.now α c.args.n) c.loop-i.i c.loop-i.row _ _ c.operand_answer-x.result (omega (arith, c.loop-i.invariant.0)) (rw (answers_size c.args.nodes.now c.args.pool.now c.requires.filled.ready.sound c.args.n α) (omega (arith, c.loop-i.invariant.2))) c.loop-i.invariant.3 c.operand_answer-x.ensures (rw c.operand_answer-x.ensures (lut_operand c.args.nodes.now c.args.pool.now c.requires.filled.ready.sound c.args.n c.requires.logic α c.loop-i.i c.requires.n_value c.loop-i.invariant.0 (omega (arith, c.loop-i.invariant.2)))) c.x-1.given.1)
+    (omega arith, omega arith, c.loop-i.invariant.2, row_more (answers_at c.args.nodes.now c.args.pool.now α c.args.n) c.loop-i.i c.loop-i.row _ _ c.operand_answer-x.result (omega (arith, c.loop-i.invariant.0)) (rw (answers_size c.args.nodes.now c.args.pool.now c.requires.filled.ready.sound c.args.n α) (omega (arith, c.loop-i.invariant.2))) c.loop-i.invariant.3 c.operand_answer-x.ensures (rw c.operand_answer-x.ensures (lut_operand c.args.nodes.now c.args.pool.now c.requires.filled.ready.sound c.args.n c.requires.logic α c.loop-i.i c.requires.n_value c.loop-i.invariant.0 (omega (arith, c.loop-i.invariant.2)))) c.in-Value.is)
 
 pub program_of-requires : goal.program_of-requires
 program_of-requires c = 

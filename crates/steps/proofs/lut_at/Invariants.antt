@@ -1,5 +1,6 @@
 -- `lut_at` meets its contract: the loop has gathered the row before it (`RowTo`); a failing operand ends it.
-use Rattle.accepted.specs.Operands.{lut_takes, answers_size, lut_operand, lut_children, lut_program}
+use Rattle.accepted.proofs.Operands.{lut_takes}
+use Rattle.accepted.specs.Operands.{answers_size, lut_operand, lut_children, lut_program}
 use Rattle.accepted.specs.Nodes.{answers_at, answer_is, children_length}
 use Rattle.operators.specs.Folds.{RowTo, row_start, row_more, row_fails, row_done, row_lt}
 use Rattle.operators.specs.Widths.{held_lt}

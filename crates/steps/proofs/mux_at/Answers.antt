@@ -23,11 +23,11 @@ pub returns-in_default : goal.returns-in_default
 returns-in_default c =
     let α = given c.args.bytes.now in
     let xs = answers_at c.args.nodes.now c.args.pool.now α c.args.n in
-    mux_failed _ (nth xs 1) (nth xs 2) _ c.enum_told-1.given.1 ∙ ap (λ (c : Answer). mux_of c (nth xs 1) (nth xs 2)) c.operand_answer-selector.ensures ∙ sym (answer_is c.args.nodes.now c.args.pool.now c.requires.filled.ready.sound c.args.n c.requires.logic.inside α 5 c.requires.n_value)
+    mux_failed _ (nth xs 1) (nth xs 2) _ c.in_default.is ∙ ap (λ (c : Answer). mux_of c (nth xs 1) (nth xs 2)) c.operand_answer-selector.ensures ∙ sym (answer_is c.args.nodes.now c.args.pool.now c.requires.filled.ready.sound c.args.n c.requires.logic.inside α 5 c.requires.n_value)
 
 pub operand_answer-requires : goal.operand_answer-requires
 operand_answer-requires c =
-    let h = arm_lt c.selector-1.given.0.1.0 c.arm_of.result c.arm_of.ensures in
+    let h = arm_lt c.in-Value.value c.arm_of.result c.arm_of.ensures in
     record {
       filled = c.requires.filled;
       logic = c.requires.logic;
@@ -38,4 +38,4 @@ pub returns : goal.returns
 returns c =
     let α = given c.args.bytes.now in
     let xs = answers_at c.args.nodes.now c.args.pool.now α c.args.n in
-    c.operand_answer.ensures ∙ ap (nth xs) c.arm_of.ensures ∙ mux_arm xs _ _ _ c.selector-1.given.1 ∙ ap (λ (c : Answer). mux_of c (nth xs 1) (nth xs 2)) c.operand_answer-selector.ensures ∙ sym (answer_is c.args.nodes.now c.args.pool.now c.requires.filled.ready.sound c.args.n c.requires.logic.inside α 5 c.requires.n_value)
+    c.operand_answer.ensures ∙ ap (nth xs) c.arm_of.ensures ∙ mux_arm xs _ _ _ c.in-Value.is ∙ ap (λ (c : Answer). mux_of c (nth xs 1) (nth xs 2)) c.operand_answer-selector.ensures ∙ sym (answer_is c.args.nodes.now c.args.pool.now c.requires.filled.ready.sound c.args.n c.requires.logic.inside α 5 c.requires.n_value)

@@ -1,0 +1,2 @@
+-- the operands of a node: each has an answer, and how wide it is
+pub mod Operands
