@@ -10,8 +10,8 @@ use Rattle.meaning.specs.Rules.Trees.{node_count, kind_at, children_at, tree_of}
 use Rattle.meaning.specs.Rules.Evaluable.{Shape, bit, width_of, is_bit, is_logic, nth_shape, shape, fits}
 use Rattle.meaning.specs.Rules.Answers.{Assignment, nth}
 use Rattle.meaning.specs.Claims.Column.{Sound}
-use Rattle.meaning.specs.Laws.BoolLaws.{true_false}
-use Rattle.meaning.specs.Laws.TestLaws.{every_nth}
+use Rattle.meaning.proofs.Laws.BoolLaws.{true_false}
+use Rattle.meaning.proofs.Laws.TestLaws.{every_nth}
 use Rattle.operators.specs.Widths.{Held, held}
 use Rattle.accepted.specs.Nodes.{Logic, answers_at, shapes_at, nth_shape_lem, nth_answer, child_below, child_marked, logic_kind, fitting}
 use Rattle.accepted.specs.Operands.{takes, Operand, Child, bit_logic, pair_logic, only_logic, mux_logic, lut_bit, shape_at, fine_child}
