@@ -1,10 +1,9 @@
 -- Bit j of a word, and what each operation on words does to it: one law for each operation, over every j. And, or and xor of
 -- bits are min, max and differ; `ones w - x` is the complement of x, w wide; `x / 2 ^ k` and `x * 2 ^ k % 2 ^ w` are the shifts.
 use Rattle.std.specs.Prelude.{◌≡◌, ℕ, zero, suc, ◌+◌, ◌-◌, ◌*◌, ◌/◌, ◌%◌, ◌^◌, ◌≤◌, ◌<◌, min, max}
-use Rattle.std.proofs.Common.{sym, ap, ◌∙◌, pow-suc, mod-lt, add-zero, arith, pow_pos, pow_mono, shr-shr}
-use Rattle.std.proofs.Math.Nat.{div-eq_of_lt, zero-div}
+use Rattle.std.proofs.Common.{sym, ap, ◌∙◌, pow-suc, mod-lt, add-zero, arith, pow_pos, shr-shr}
+use Rattle.std.proofs.Math.Nat.{zero-div}
 use Rattle.std.proofs.Math.Decide.{dec_lt}
-use Rattle.std.proofs.Math.Pow.{split}
 use Rattle.std.specs.Int.Bits.{bit_and, bit_or, bit_xor, differ, and_step, or_step, xor_step, and_lt}
 use Rattle.std.proofs.lemmas.Nat.{and_shr, or_shr, xor_shr, or_lt}
 use Rattle.meaning.specs.Rules.Words.{bit_at, ones}

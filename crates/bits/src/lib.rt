@@ -2,6 +2,8 @@
 // and the width test. The plain meaning is that of numbers, `bit_at` and `ones` of meaning's Rules/Words; no user
 // calls this crate, and each call's contract is its theorem. What and, or, xor, complement and the shifts do to bit j
 // is in specs/Bit.
+#![tactic(auto)]
+
 ghost use Rattle.std.specs.Prelude.{◌≡◌, ◌+◌, ◌*◌, ◌%◌, ◌^◌, ◌<◌, ◌≤◌};
 ghost use Rattle.meaning.specs.Rules.Words.{bit_at, ones, word_fits};
 

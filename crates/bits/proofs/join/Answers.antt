@@ -3,7 +3,6 @@ use lib.Bits.{bit_or, or_shifted}
 use native.Mathlib.Nat.{mod-eq_of_lt}
 use mathlib.Core.Path.{ap, ◌∙◌}
 use Prim.Native.Nat.{ℕ}
-use borrow.Author.Rules.{rules}
 use Rattle.bits.proofs.join.Goals as goal
 
 pub returns : goal.returns

@@ -4,7 +4,6 @@ use lib.Pow.{pow_pos}
 use mathlib.Core.Path.{ap, ◌∙◌}
 use native.Mathlib.Omega.{arith}
 use Prim.Native.Nat.{ℕ, ◌-◌}
-use borrow.Author.Rules.{rules}
 use Rattle.bits.proofs.low_bits.Goals as goal
 
 pub overflow_sub-result : goal.overflow_sub-result

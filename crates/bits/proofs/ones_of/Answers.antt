@@ -1,7 +1,6 @@
 -- `bits::ones_of` meets its contract: width 64 by itself, any other by its power of two.
 use lib.Pow.{pow_pos}
 use native.Mathlib.Omega.{arith}
-use borrow.Author.Rules.{rules}
 use Rattle.bits.proofs.ones_of.Goals as goal
 
 pub returns-then-width-eq64 : goal.returns-then-width-eq64

@@ -4,7 +4,6 @@ use native.Mathlib.Nat.{one-mul}
 use Prim.Native.Nat.{◌^◌}
 use mathlib.Core.Path.{◌∙◌}
 use native.Mathlib.Omega.{arith}
-use borrow.Author.Rules.{rules}
 use Rattle.bits.proofs.power_of_two.Goals as goal
 
 pub returns : goal.returns

@@ -1,7 +1,6 @@
 -- `bits::word_fits` meets its contract: a word is below 2 ^ 64, so width 64 takes it.
 use Prim.Native.Nat.{◌^◌}
 use borrow.Author.Tests.{le-leb, lt-leb, lt-ltb}
-use borrow.Author.Rules.{rules}
 use Rattle.bits.proofs.word_fits.Goals as goal
 
 pub returns-then-width-gt64 : goal.returns-then-width-gt64
