@@ -5,6 +5,8 @@
 // the pass, call these and nothing else for a node's own answer; a Lut's row is gathered in their loops, so that a
 // failing operand ends it at once. That every operator keeps answers within their width is in specs/Widths; how a
 // loop over operands goes, in specs/Folds.
+#![tactic(auto)]
+
 ghost use Rattle.std.specs.Prelude.{◌≡◌, [], ◌∷◌, cond, ◌<◌, eqb};
 ghost use Rattle.meaning.specs.declared.Answer.TheVariants.{Value};
 ghost use Rattle.meaning.specs.Rules.Limits.{widest_bus};

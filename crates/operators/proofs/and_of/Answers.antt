@@ -1,5 +1,4 @@
 -- `and_of` meets its contract: by the cases of both answers; beside a failure, `zeros_or` decides.
-use borrow.Author.Rules.{rules}
 use Rattle.operators.proofs.and_of.Goals as goal
 
 pub returns-in-Value-y : goal.returns-in-Value-y

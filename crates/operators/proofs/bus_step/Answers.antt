@@ -2,7 +2,6 @@
 use native.Mathlib.Numerals.{add-one}
 use Rattle.operators.specs.Widths.{held_value, held_lt}
 use native.Mathlib.Omega.{arith}
-use borrow.Author.Rules.{rules}
 use Rattle.operators.proofs.bus_step.Goals as goal
 
 pub overflow_add-result : goal.overflow_add-result

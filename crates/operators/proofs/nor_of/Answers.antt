@@ -3,7 +3,6 @@ use Rattle.meaning.specs.Rules.Limits.{widest_bus}
 use Rattle.meaning.specs.Rules.Answers.{and_of}
 use Rattle.operators.specs.Widths.{held, nor_is}
 use mathlib.Core.Path.{ap₂, ◌∙◌}
-use borrow.Author.Rules.{rules}
 use Rattle.operators.proofs.nor_of.Goals as goal
 
 pub not_of-left-requires : goal.not_of-left-requires

@@ -2,7 +2,6 @@
 use Rattle.meaning.specs.Rules.Limits.{widest_bus}
 use Rattle.operators.specs.Widths.{held_value}
 use native.Mathlib.Omega.{arith}
-use borrow.Author.Rules.{rules}
 use Rattle.operators.proofs.not_of.Goals as goal
 
 pub ones_of-requires : goal.ones_of-requires

@@ -1,7 +1,6 @@
 -- `xor_of` meets its contract: a failure leaves, the first before the second.
 use Rattle.operators.specs.Widths.{xor_first}
 use mathlib.Core.Path.{sym, ◌∙◌}
-use borrow.Author.Rules.{rules}
 use Rattle.operators.proofs.xor_of.Goals as goal
 
 pub returns-in_default : goal.returns-in_default
