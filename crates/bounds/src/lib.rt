@@ -1,6 +1,8 @@
 // Number 11 (document 01, "Numbers a call answers with": "n above 30, a variable at n or above anywhere in the list, or
 // a mark at bit n or above"). The plain meaning is meaning's Rules/Separation, `bounded`; a caller whose list has its
 // layout calls `bounded`, for any n and any marks.
+#![tactic(auto)]
+
 ghost use Rattle.std.specs.Prelude.{◌≡◌, ◌<◌};
 ghost use Rattle.meaning.specs.Rules.Trees.{node_count};
 ghost use Rattle.meaning.specs.Rules.Separation as rule;

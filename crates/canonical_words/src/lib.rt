@@ -1,5 +1,7 @@
 // What the canonicaliser answers as four words (include/panel.h; document 01, "Canonical list"): what crosses the C
 // interface. The list itself stands in the output slices. The plain meaning is specs/Words, `canonical_words`.
+#![tactic(auto)]
+
 ghost use Rattle.std.specs.Prelude.{◌≡◌};
 ghost use Rattle.canonical_words.specs.Words.{canonical_words};
 

@@ -6,6 +6,8 @@
 // subtree once. What is made belongs to the new list alone: both passes keep it in the work space, by the given list's
 // nodes, and a number of the new list is given only when its node is listed. Here stand the order of the refusals and
 // the output, which `list_output` writes when nothing can refuse any more.
+#![tactic(auto)]
+
 mod output;
 
 ghost use Rattle.std.specs.Prelude.{◌≡◌, ◌*◌, ◌≤◌, length};

@@ -6,6 +6,8 @@
 // what is written and what stays is specs/Both.
 // Every pair of nodes is looked at once at most, and of a pair as many children as both have (of a node that counts in
 // an accepted list 64 at most, the widest Bus); no path is walked.
+#![tactic(auto)]
+
 mod alike;
 
 ghost use Rattle.std.specs.Prelude.{◌≡◌, ◌<◌, min};

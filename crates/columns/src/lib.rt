@@ -2,6 +2,8 @@
 // node. Parts of one lent slice cannot be lent apart, so every pass takes the whole of it and goes by column and row. The
 // plain meaning is specs/Columns.antt (`cell`, `with_column`); code reads by `get` and writes by `put`. The rows of a second
 // list follow those of the first, so every pass also takes the number of its list's first row.
+#![tactic(auto)]
+
 ghost use Rattle.std.specs.Prelude.{◌≡◌, ◌<◌, length, set};
 ghost use Rattle.meaning.specs.Rules.Lent.{cleared};
 ghost use Rattle.columns.specs.Columns.{place, cell};

@@ -8,7 +8,6 @@ use Rattle.meaning.specs.declared.Answer.{Answer}
 use Rattle.meaning.specs.declared.Comparison.{Comparison}
 use Rattle.meaning.specs.Rules.Trees.{Tree, same}
 use Rattle.meaning.specs.Rules.Answers.{answer}
-use Rattle.meaning.specs.Rules.Search.{lowest}
 use Rattle.meaning.specs.Rules.Assignments.{inputs, drive}
 use Rattle.meaning.specs.Rules.Comparison.{agree, decides, assignments, deciding_index, equivalent, decided_at, compare_trees}
 use Rattle.meaning.proofs.Laws.SearchLaws.{NoneBelow, lowest_here, lowest_none}

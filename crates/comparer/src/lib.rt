@@ -4,6 +4,8 @@
 // whose contract is that equation. The work is done by `verifier::sound` (numbers 3 to 8), `classes::deep_equals` (the
 // tree test), `inputs::get_input_set` (number 9) and, assignment after assignment, `trials::answers_at`; here stand
 // the order of the refusals and the search (`lowest`).
+#![tactic(auto)]
+
 mod lowest;
 
 ghost use Rattle.std.specs.Prelude.{◌≡◌, false, ◌+◌, ◌*◌, ◌≤◌, length};

@@ -1,5 +1,7 @@
 // A comparison's result as ten words (include/panel.h; document 01, "The result carries verdict, i and both answers"):
 // what crosses the C interface. The plain meaning is specs/Words, `comparison_words`.
+#![tactic(auto)]
+
 ghost use Rattle.std.specs.Prelude.{◌≡◌};
 ghost use Rattle.meaning.specs.Rules.Verdict.{check_number};
 ghost use Rattle.comparison_words.specs.Words.{comparison_words};

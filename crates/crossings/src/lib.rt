@@ -7,6 +7,8 @@
 // - and so that a low crossing is found soon whatever the marks are, it goes by stages, each of a few variables more
 //   than the one before (specs/Stages).
 // A caller has a list accepted and number 11 behind it, and calls `lowest_crossing`; 2^n says that there is none.
+#![tactic(auto)]
+
 mod blocks;
 mod stages;
 pub mod trial;

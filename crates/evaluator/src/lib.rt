@@ -2,6 +2,8 @@
 // `evaluate`: the answer, the work space and the output of a call, for any words at all. A user calls `eval`, whose
 // contract is that equation. The work is done by `verifier::sound` (numbers 3 to 8) and `pass::pass`; here stand
 // number 12 (`assignment`), the output (`output`) and the order of the refusals.
+#![tactic(auto)]
+
 mod assignment;
 mod output;
 

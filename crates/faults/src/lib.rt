@@ -2,6 +2,8 @@
 // Rules/Verification: `wrong`, a node's own fault from its children, and `verify_fault`. A caller uses `verify_fault`, with
 // the node's mark at hand; which node is the lowest faulty one is the verifier's to find. A rule looks at a child no
 // further than its kind word and its datum, so the code reads those and never walks down.
+#![tactic(auto)]
+
 ghost use Rattle.std.specs.Prelude.{◌≡◌, Bool, ◌||◌, ℕ, ◌<◌, ◌≤◌, length, eqb};
 ghost use Rattle.meaning.specs.Rules.Kinds.{kind_of, cycle_word};
 ghost use Rattle.meaning.specs.Rules.Trees.{node_count, kind_word};

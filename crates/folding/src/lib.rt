@@ -2,6 +2,8 @@
 // operands are given by their homes, the rows of the work space that hold their normal forms (form_rows). The plain
 // meaning is meaning's Rules/Folding, `fold`; what the answer stands for is specs/Folded, `folded_tree`. A caller lends
 // the list of operands, from which those are taken that a rule drops. Nothing here is written in a row.
+#![tactic(auto)]
+
 mod dropping;
 
 ghost use Rattle.std.specs.Prelude.{◌≡◌, map, ℕ, ◌≤◌, ◌<◌, length};

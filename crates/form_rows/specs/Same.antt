@@ -4,7 +4,6 @@ use Rattle.std.proofs.Common.{◌∙◌, ⊎_elim, arith, get_or-set_other}
 use Rattle.meaning.specs.Rules.Limits.{work_per_node}
 use Rattle.meaning.specs.Rules.Trees.{node_count}
 use Rattle.columns.specs.Columns.{place, cell, home_column, count_column, number_column}
-use Rattle.form_rows.specs.From.{from}
 use Rattle.form_rows.specs.Kept.{formed_kept, kept_home, kept_kid}
 use Rattle.form_rows.specs.Forms.{Home, Formed, kid_at}
 

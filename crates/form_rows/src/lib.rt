@@ -3,6 +3,8 @@
 // meaning is specs/Forms: `FormAt` says that the row's tree is meaning's `nf` of the tree at the node. Nothing here
 // writes; the pass `forms` fills the rows, and what makes the list reads them. No node of the list that is made has a
 // number yet, and no number of the given list stands in what is made: homes are looked up in the given list alone.
+#![tactic(auto)]
+
 ghost use Rattle.std.specs.Prelude.{◌≡◌, ◌+◌, ◌*◌, ◌≤◌, ◌<◌, length};
 ghost use Rattle.meaning.specs.Rules.Limits.{work_per_node};
 ghost use Rattle.meaning.specs.Rules.Trees.{node_count};

@@ -5,6 +5,8 @@
 // work space (rows, specs/Rows, `Prepared`). Nodes go by number, so that a node's children have their homes before it;
 // no path is walked. Only the node's own row is written at its turn: the columns from HOME to the last of OPERAND, and
 // NUMBER, which the second pass starts from.
+#![tactic(auto)]
+
 mod reading;
 mod storing;
 

@@ -1,6 +1,8 @@
 // The variables below a root as bits of a word (document 01, "Comparison and separation": "bit v drives variable v").
 // The plain meaning is meaning's Rules/Assignments, `occurs`, bit by bit (specs/Seen, `IsMask`). A caller has a list
 // accepted, its marks in the work space, and number 11 behind it, so that each variable has a bit.
+#![tactic(auto)]
+
 ghost use Rattle.std.specs.Prelude.{◌≡◌, true, ◌^◌, ◌<◌, ◌≤◌};
 ghost use Rattle.meaning.specs.Rules.Limits.{most_inputs};
 ghost use Rattle.meaning.specs.Rules.Trees.{node_count, root_of};

@@ -5,6 +5,8 @@
 // `driving::drive` for each index, on bytes that `driving::undriven` gave at first. That the variables are numbers of
 // such bytes is specs/Inputs, `inputs_below`; that the bytes are ready for the next index, specs/Driving,
 // `still_undriven`.
+#![tactic(auto)]
+
 pub mod driving;
 
 ghost use Rattle.std.specs.Prelude.{◌≡◌, cond, ◌+◌, ◌<◌, ◌≤◌, length, set, take};

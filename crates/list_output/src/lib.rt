@@ -3,6 +3,8 @@
 // The plain meaning is meaning's Rules/Canonical, `canonical_nodes` and `canonical_pool`. A caller has subtrees listed
 // (listed, specs/Listing), asks `pool_length`, and writes by `write_nodes` and `write_pool` once all is known to fit.
 // What is read of the work space alone is said by its words (specs/Words); specs/Canonical joins those with the trees.
+#![tactic(auto)]
+
 mod entry;
 mod node;
 mod part;

@@ -3,6 +3,8 @@
 // one more, for the Program of the Lut that its normal form is: a Program that folding made stands at no node. The plain
 // meaning is meaning's Rules/Listing, `keep` and `number_in`; a caller asks `lowest_form` or `lowest_program` for the
 // entry that is the same tree, and the laws that join the two are in specs/Likeness.
+#![tactic(auto)]
+
 mod alike;
 
 ghost use Rattle.std.specs.Prelude.{◌≡◌, ◌+◌, ◌*◌, ◌/◌, ◌≤◌, ◌<◌, length, set};

@@ -1,5 +1,5 @@
 -- To the next child: the one before it has its number.
-use Rattle.std.specs.Prelude.{ℕ, suc, ◌+◌, ◌-◌, ◌/◌, ◌≤◌, ◌<◌, ◌≡◌, ◌≢◌, List, set}
+use Rattle.std.specs.Prelude.{ℕ, suc, ◌+◌, ◌/◌, ◌≤◌, ◌<◌, ◌≡◌, ◌≢◌, List, set}
 use Rattle.std.proofs.Common.{sym, subst, ◌∙◌, inl, arith}
 use Rattle.std.proofs.Math.Decide.{ℕ_discrete}
 use Rattle.meaning.specs.Rules.Limits.{work_per_node}

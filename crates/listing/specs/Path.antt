@@ -9,7 +9,7 @@ use Rattle.meaning.specs.Rules.Trees.{Tree, Forest, forest}
 use Rattle.meaning.specs.Rules.Listing.{keep, visit, visit_all}
 use Rattle.meaning.proofs.Laws.ListingLaws.{Has, Ordered}
 use Rattle.columns.specs.Columns.{cell, kind_column, datum_column, count_column, stack_column, next_column}
-use Rattle.form_rows.specs.From.{from, from_length, from_at}
+use Rattle.form_rows.specs.From.{from_length, from_at}
 use Rattle.form_rows.specs.Forms.{nf_at, made, program_of, kid_at, kids_in, FormAt}
 use Rattle.listed.specs.Keeping.{visit_there, visit_again}
 

@@ -6,6 +6,8 @@
 // number is passed over. A node looks for its own tree among the entries before it gets a number, so two nodes that are
 // the same tree get the same. What is left to be seen at each step is specs/Path; how many turns are left at most, and
 // that the entries have room, specs/Weights.
+#![tactic(auto)]
+
 mod entry;
 
 ghost use Rattle.std.specs.Prelude.{◌≡◌, ℕ, ◌+◌, ◌-◌, ◌*◌, ◌/◌, ◌≤◌, ◌<◌, length};

@@ -2,14 +2,13 @@
 -- lie in the pool and below it.
 use Rattle.std.specs.Prelude.{ℕ, ◌+◌, ◌≤◌, ◌<◌, ◌≡◌, List, true, length, leb, ltb}
 use Rattle.std.proofs.Common.{arith, ne_eqb, leb-true}
-use Rattle.meaning.specs.Rules.Limits.{most_nodes, most_pool}
 use Rattle.meaning.specs.Rules.Kinds.{kind_of, may_have, const_word, program_word, dont_care_word, variable_word}
-use Rattle.meaning.specs.Rules.Trees.{node_count, kind_at, first_at, count_at, children_at}
-use Rattle.meaning.specs.Rules.Layout.{sizes, first_fits, laid_out, children_below, layout}
+use Rattle.meaning.specs.Rules.Trees.{kind_at, first_at, count_at, children_at}
+use Rattle.meaning.specs.Rules.Layout.{first_fits, laid_out, children_below, layout}
 use Rattle.meaning.specs.Claims.Column.{WellLaid, All}
 use Rattle.meaning.proofs.Laws.BoolLaws.{and_right}
 use Rattle.meaning.proofs.Laws.TestLaws.{is_lt, every_is}
-use Rattle.meaning.proofs.Laws.ColumnLaws.{sizes_passed, layout_passed}
+use Rattle.meaning.proofs.Laws.ColumnLaws.{layout_passed}
 
 -- a node that has children has them in the pool
 abbrev pub PartFits : List ℕ → List ℕ → ℕ → Type 0

@@ -4,5 +4,7 @@
 // the limits; past numbers 3 to 5 it reads children through `children::children_of`. Each call's contract joins the
 // two: its answer is what the definition named there gives. What a caller may rely on past those numbers is in
 // specs/Laid.
+#![tactic(auto)]
+
 pub mod children;
 pub mod layout;

@@ -4,6 +4,8 @@
 // `mark_reached`: one pass from the root down, in which each reached node hands its mark on to its children. Since children
 // are numbered below their node, a node's own mark is settled before its turn comes; each node and each pool entry is
 // looked at once, however often a node is shared.
+#![tactic(auto)]
+
 ghost use Rattle.std.specs.Prelude.{◌≡◌, cond, ℕ, suc, ◌+◌, ◌*◌, ◌^◌, ◌<◌, ◌≤◌, length, get_or, eqb};
 ghost use Rattle.meaning.specs.Rules.Limits.{most_nodes, work_per_node};
 ghost use Rattle.meaning.specs.Rules.Kinds.{cycle_word};

@@ -1,5 +1,7 @@
 // The answers of document 01 as types, and its limits, numbers and kinds as constants; nothing else. What each of them
 // means is defined in specs/Rules, and the code that gives them stands in the crates above this one.
+#![tactic(auto)]
+
 pub mod kinds;
 pub mod limits;
 pub mod numbers;

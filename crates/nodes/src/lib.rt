@@ -2,6 +2,8 @@
 // that of meaning's Rules/Trees (`node_count`, `kind_at`, `first_at`, `count_at`, `datum_at`), and each accessor's
 // contract is an equation with it. No other file says where in the list a word is read; the words of a list that is made
 // are stored by list_output's `put_node`.
+#![tactic(auto)]
+
 ghost use Rattle.std.specs.Prelude.{◌≡◌, ◌+◌, ◌*◌, ◌^◌, ◌<◌};
 ghost use Rattle.meaning.specs.Rules.Trees.{node_count, kind_at, first_at, count_at, datum_at};
 

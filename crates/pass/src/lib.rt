@@ -5,6 +5,8 @@
 // assignment anew. Its contract is an equation for the whole work space (specs/Written, `with_pairs`): columns STATE
 // and VALUE of the list's rows, and nothing else, are written. That the answers are those of the plain evaluator is
 // specs/Same.
+#![tactic(auto)]
+
 ghost use Rattle.std.specs.Prelude.{◌≡◌, ◌<◌};
 ghost use Rattle.meaning.specs.Rules.Trees.{node_count};
 ghost use Rattle.meaning.specs.Rules.Assignments.{given};

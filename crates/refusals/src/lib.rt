@@ -1,6 +1,8 @@
 // The order of refusals (document 01, "Numbers a call answers with"): a test that names no node, and of two tests the
 // first that refuses. The plain meaning is meaning's Rules/Refusals, `require` and `then`. A call that asks test
 // after test joins their answers by `first_refusal`, in the document's order.
+#![tactic(auto)]
+
 ghost use Rattle.std.specs.Prelude.{◌≡◌};
 ghost use Rattle.meaning.specs.Rules.Refusals.{◌then◌};
 ghost use Rattle.meaning.specs.Rules.Refusals as rule;

@@ -1,6 +1,8 @@
 // The root's answer under one assignment (document 01, "Answers of a node"). The plain meaning is meaning's `answer` of
 // the root; a caller has a list accepted, with its marks and shapes in the work space (rows, specs/Rows, `Prepared`),
 // and calls `root_under` for each assignment anew: it stays prepared (pass, specs/Written, `still_prepared`).
+#![tactic(auto)]
+
 ghost use Rattle.std.specs.Prelude.{◌≡◌};
 ghost use Rattle.meaning.specs.Rules.Trees.{root_of};
 ghost use Rattle.meaning.specs.Rules.Answers as answers;

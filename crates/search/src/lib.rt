@@ -1,6 +1,8 @@
 // "at the lowest faulty node": one search from node 0 on, for every test that is made node by node (document 01,
 // "Order"). The plain meaning is meaning's Rules/Refusals, `at_lowest`, of the faults of that test (specs/Search,
 // `fault_of`); the verifier and the canonicaliser call `lowest_fault` with the test that is meant, since Rattle has no function values.
+#![tactic(auto)]
+
 ghost use Rattle.std.specs.Prelude.{◌≡◌, ◌<◌, ◌≤◌};
 ghost use Rattle.meaning.specs.Rules.Limits.{most_nodes};
 ghost use Rattle.meaning.specs.Rules.Trees.{node_count};

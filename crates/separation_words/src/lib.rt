@@ -1,5 +1,7 @@
 // A separation's result as ten words (include/panel.h; document 01, "Crossing carries i and the answers at i and at i
 // with its run bits cleared"): what crosses the C interface. The plain meaning is specs/Words, `separation_words`.
+#![tactic(auto)]
+
 ghost use Rattle.std.specs.Prelude.{◌≡◌};
 ghost use Rattle.meaning.specs.Rules.Separation.{judgement_number};
 ghost use Rattle.separation_words.specs.Words.{separation_words};

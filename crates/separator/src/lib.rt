@@ -4,6 +4,8 @@
 // neighbours. A user calls `separate`, whose contract is that equation. The work is done by `verifier::sound` (numbers
 // 3 to 8), `bounds::bounded` (number 11) and `crossings::lowest_crossing` (the search); here stand the order of the
 // refusals and what a crossing carries.
+#![tactic(auto)]
+
 mod numbered;
 
 ghost use Rattle.std.specs.Prelude.{◌≡◌, true, ◌*◌, ◌≤◌, length};

@@ -3,6 +3,8 @@
 // `step::write_shapes`, one pass over the nodes in number order that leaves every node's shape in the work space, and
 // then `fit::shape_fault`, which looks only at a node's mark and its children's shapes; which node is the lowest
 // faulty one is the verifier's to find. `gate::gate_fault` is number 14 of one node, which the canonicaliser asks.
+#![tactic(auto)]
+
 pub mod fit;
 pub mod gate;
 pub mod step;

@@ -1,6 +1,8 @@
 // Numbers 1, 2 and 10: the sizes of what is lent (document 01, "Numbers a call answers with"). The plain meaning is
 // that of meaning's Rules/Layout. A call that is brought one list asks `lent`; one that is brought two asks
 // `lent_both`.
+#![tactic(auto)]
+
 ghost use Rattle.std.specs.Prelude.{◌≡◌, ◌≤◌, length};
 ghost use Rattle.meaning.specs.Rules.Limits.{most_nodes, most_pool};
 ghost use Rattle.meaning.specs.Rules.Trees.{node_count};

@@ -1,6 +1,8 @@
 // The words whose bits are among those of another word, in order: what a search that drives some variables and leaves
 // the rest alone goes through. The plain meaning is specs/Among; a caller starts at 0, which is the lowest, and asks
 // `next_among` until it has the whole mask, which is the highest. No user calls this crate.
+#![tactic(auto)]
+
 ghost use Rattle.std.specs.Prelude.{◌<◌};
 ghost use Rattle.subsets.specs.Among.{Among};
 ghost use Rattle.subsets.specs.Next.{IsNext};

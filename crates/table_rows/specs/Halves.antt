@@ -2,7 +2,7 @@
 -- significant operand is tied to 1 and to 0 (document 01, "the high or low half"; "the program keeps the rows left in
 -- order"). Shown once over k.
 use Rattle.std.specs.Prelude.{ℕ, suc, ◌+◌, ◌*◌, ◌/◌, ◌%◌, ◌^◌, ◌<◌, ◌≡◌}
-use Rattle.std.proofs.Common.{sym, ap, ◌∙◌, pow-suc, mod-lt, mod-eq_of_lt, arith, pow_pos, pow-add, shr_lt}
+use Rattle.std.proofs.Common.{sym, ap, ◌∙◌, pow-suc, mod-lt, mod-eq_of_lt, arith, pow_pos, shr_lt}
 use Rattle.std.proofs.Math.Nat.{div-eq_of_lt}
 use Rattle.bits.specs.Bit.{bit_ext, bit_shr}
 use Rattle.meaning.proofs.Laws.TableLaws.{cofactor_row, cofactor_lt}

@@ -2,6 +2,8 @@
 // operands has 2 ^ k rows, row i its bit i (document 01, "Truth-table routines"). The plain meaning is that of
 // meaning's Rules/Tables, and each call's contract is an equation with it. No user calls this crate: `tables` and
 // `faults` do.
+#![tactic(auto)]
+
 ghost use Rattle.std.specs.Prelude.{◌≡◌, cond, ◌+◌, ◌^◌, ◌<◌, ◌≤◌};
 ghost use Rattle.meaning.specs.Rules.Words.{bit_at};
 ghost use Rattle.meaning.specs.Rules.Tables as meant;

@@ -1,5 +1,7 @@
 // The answers of the truth-table routines as three words, a number and two values (document 01, "Truth-table routines"):
 // what recorded cases are compared by.
+#![tactic(auto)]
+
 ghost use Rattle.std.specs.Prelude.{◌≡◌, ◌&&◌, eqb};
 ghost use Rattle.meaning.specs.Rules.Tables as rules;
 ghost use Rattle.table_words.specs.Said.{Said};

@@ -2,6 +2,8 @@
 // programs over fewer or exchanged operands. The plain meaning of each is the definition of the same name in meaning's
 // Rules/Tables; a user makes the calls below, with any numbers and bytes. Each call's contract joins the two: what its
 // answer says, by number and values, is what the definition gives. No call traps: arguments out of range answer OutOfRange.
+#![tactic(auto)]
+
 mod inputs;
 
 ghost use Rattle.std.specs.Prelude.{◌≡◌};

@@ -3,6 +3,8 @@
 // `answer` of both roots under `drive`; the contract says it, and what is left of the lent space, whole (specs/Trial).
 // A caller has both lists accepted, the second's rows behind the first's, and calls `answers_at` for index after
 // index: nothing is done for an assignment but driving the variables and one pass over each list.
+#![tactic(auto)]
+
 ghost use Rattle.std.specs.Prelude.{◌≡◌};
 ghost use Rattle.meaning.specs.Rules.Assignments as assignments;
 ghost use Rattle.inputs.specs.Driving.{Drivable};

@@ -1,6 +1,8 @@
 // The verdict of a comparison (document 002, check.rs): its constructors, its questions and its decision; `verdict_name`
 // writes its name. A method of a type of another crate is refused by the language, so each is a function over `Check` by
 // value.
+#![tactic(auto)]
+
 ghost use Rattle.std.specs.Prelude.{◌≡◌};
 ghost use Rattle.meaning.specs.Rules.Verdict as rules;
 

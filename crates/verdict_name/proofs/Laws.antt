@@ -7,7 +7,7 @@ use lib.Dec.{leb}
 use lib.Seq.{take-length}
 use borrow.Author.Tests.{lt-leb, le-leb}
 use Rattle.meaning.specs.declared.Written.TheVariants.{Bytes, TooShort}
-use Rattle.meaning.specs.Rules.Verdict.{Displayed, displayed, display_of}
+use Rattle.meaning.specs.Rules.Verdict.{displayed, display_of}
 
 pub too_short : (name old : List ℕ) → length old < length name
     → displayed TooShort old ≡ display_of (leb (length name) (length old)) name old

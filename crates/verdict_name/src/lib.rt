@@ -1,5 +1,7 @@
 // The name of a verdict (document 002, check.rs, `Display`): written into bytes that the caller lends. The plain
 // meaning is `display` of meaning's Rules/Verdict, with what the lent slice holds afterwards.
+#![tactic(auto)]
+
 ghost use Rattle.std.specs.Prelude.{◌≡◌, length, leb};
 ghost use Rattle.meaning.specs.Rules.Verdict as rules;
 

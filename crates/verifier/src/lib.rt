@@ -4,6 +4,8 @@
 // calls that need a value share: the whole row of numbers 3 to 8 for one list, which leaves marks and shapes in its
 // columns (specs/Left). Every pass looks a bounded number of times at each node and at each of its children; parts of the
 // pool may overlap, so these can be more than the pool has entries.
+#![tactic(auto)]
+
 ghost use Rattle.std.specs.Prelude.{◌≡◌, ◌+◌, ◌*◌, ◌≤◌, length};
 ghost use Rattle.meaning.specs.Rules.Limits.{most_nodes, work_per_node};
 ghost use Rattle.meaning.specs.Rules.Trees.{node_count};

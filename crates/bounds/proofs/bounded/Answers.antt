@@ -3,11 +3,6 @@ use Rattle.meaning.specs.Rules.Refusals.{require}
 use Rattle.meaning.specs.Rules.Numbers.{out_of_bounds}
 use mathlib.Core.Bool.{Bool}
 use mathlib.Core.Path.{ap, ◌∙◌}
-use borrow.Author.Rules.{rules}
-use Rattle.bounds.proofs.bounded.Reads as reads
-use Rattle.bounds.proofs.bounded.Lts as lts
-use Rattle.bounds.proofs.in_bounds.Reads as in-bounds-reads
-use Rattle.refusals.proofs.require.Reads as require-reads
 use Rattle.bounds.proofs.bounded.Goals as goal
 
 pub returns : goal.returns

@@ -9,12 +9,6 @@ use mathlib.Core.Bool.{true, false}
 use mathlib.Core.List.{List}
 use mathlib.Core.Path.{◌≡◌, refl, sym, ap, ◌∙◌}
 use Prim.Native.Nat.{ℕ}
-use borrow.Author.Rules.{rules}
-use Rattle.bounds.proofs.in_bounds.Reads as reads
-use Rattle.bounds.proofs.in_bounds.Lts as lts
-use Rattle.bits.proofs.power_of_two.Reads as power-of-two-reads
-use Rattle.bounds.proofs.variables_below.Reads as variables-below-reads
-use Rattle.nodes.proofs.wide.Reads as wide-reads
 use Rattle.bounds.proofs.in_bounds.Goals as goal
 
 pub returns-then-wide-gt-MOST_INPUTS : goal.returns-then-wide-gt-MOST_INPUTS

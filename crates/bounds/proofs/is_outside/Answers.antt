@@ -5,11 +5,6 @@ use borrow.Author.Tests.{eq-eqb, ne_eqb}
 use mathlib.Core.List.{List}
 use mathlib.Core.Path.{◌≡◌, refl, sym, ◌∙◌}
 use Prim.Native.Nat.{ℕ}
-use borrow.Author.Rules.{rules}
-use Rattle.bounds.proofs.is_outside.Reads as reads
-use Rattle.bounds.proofs.is_outside.Lts as lts
-use Rattle.nodes.proofs.first_of.Reads as first-of-reads
-use Rattle.nodes.proofs.kind_of.Reads as kind-of-reads
 use Rattle.bounds.proofs.is_outside.Goals as goal
 
 pub returns-then-kind_of-eq-VARIABLE : goal.returns-then-kind_of-eq-VARIABLE

@@ -13,7 +13,7 @@ use native.Mathlib.Omega.{arith}
 use Rattle.canonicaliser.proofs.accepted.Goals as goal
 
 pub sound-listed-requires : goal.sound-listed-requires
-sound-listed-requires c = 
+sound-listed-requires c =
     record {
       nodes_bound = c.requires.nodes_bound;
       nodes_in_bounds = omega (arith, c.requires.nodes_in_bounds);

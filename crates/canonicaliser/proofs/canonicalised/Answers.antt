@@ -13,11 +13,10 @@ use lib.ListN.{length}
 use Prim.Native.Nat.{ℕ, ◌-◌}
 use mathlib.Core.List.{List}
 use mathlib.Core.Path.{◌≡◌, sym, ap, subst, ◌∙◌}
-use borrow.Author.Rules.{rules}
 use Rattle.canonicaliser.proofs.canonicalised.Goals as goal
 
 pub accepted-refusal-requires : goal.accepted-refusal-requires
-accepted-refusal-requires c = 
+accepted-refusal-requires c =
     record {
       nodes_bound = c.requires.nodes_bound;
       nodes_in_bounds = c.requires.nodes_in_bounds;
@@ -54,14 +53,14 @@ write_forms-requires c =
     subst (Prepared ns ps 0) (sym c.accepted-refusal.ensures.work_after) (prepared ns ps w c.requires.nodes_in_bounds done)
 
 pub list_subtrees-count-requires : goal.list_subtrees-count-requires
-list_subtrees-count-requires c = 
+list_subtrees-count-requires c =
     record {
       formed = c.write_forms.ensures.formed;
       by_index = c.write_forms.ensures.by_index;
     }
 
 pub put_list-requires : goal.put_list-requires
-put_list-requires c = 
+put_list-requires c =
     record {
       listing = c.list_subtrees-count.ensures;
       nodes_bound = c.requires.nodes_bound;

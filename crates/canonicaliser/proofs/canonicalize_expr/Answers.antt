@@ -12,7 +12,6 @@ use Prim.Native.Nat.{ℕ, ◌-◌}
 use mathlib.Core.List.{List}
 use mathlib.Core.Path.{◌≡◌, sym, ap, ap₂, ◌∙◌}
 use native.Mathlib.Omega.{arith}
-use borrow.Author.Rules.{rules}
 use Rattle.canonicaliser.proofs.canonicalize_expr.Goals as goal
 
 pub returns-then-lent-ne-DONE : goal.returns-then-lent-ne-DONE

@@ -4,7 +4,6 @@ use Rattle.classes.specs.Classes.{has_tree, class_unmarked}
 use Rattle.meaning.specs.Rules.Search.{lowest}
 use Rattle.meaning.specs.Rules.Reach.{mark_of}
 use Rattle.meaning.specs.Rules.Trees.{tree_of}
-use borrow.Author.Rules.{rules}
 use native.Mathlib.Omega.{arith}
 use Prim.Native.Nat.{ℕ, ◌<◌, ◌+◌, min}
 use mathlib.Core.List.{List}

@@ -6,7 +6,6 @@ use Rattle.columns.specs.Columns.{cell, class_column, with_column}
 use Rattle.meaning.specs.Rules.Trees.{node_count}
 use lib.Dec.{eqb}
 use lib.ListN.{length}
-use borrow.Author.Rules.{rules}
 use native.Mathlib.Omega.{arith}
 use Prim.Native.Nat.{ℕ, ◌+◌, ◌-◌}
 use mathlib.Core.List.{List}

@@ -5,9 +5,8 @@ use Rattle.columns.specs.ColumnLaws.{with_none, with_next, with_length}
 use Rattle.columns.specs.Columns.{place, class_column, with_column}
 use Rattle.meaning.specs.Rules.Trees.{node_count}
 use lib.ListN.{length, set}
-use borrow.Author.Rules.{rules}
 use native.Mathlib.Omega.{arith}
-use Prim.Native.Nat.{ℕ, ◌≤◌, ◌+◌, ◌-◌}
+use Prim.Native.Nat.{ℕ, ◌+◌, ◌-◌}
 use mathlib.Core.List.{List}
 use mathlib.Core.Path.{◌≡◌, sym, ap, ap₂, subst, ◌∙◌}
 use Rattle.classes.proofs.write_classes.Goals as goal

@@ -1,15 +1,9 @@
 -- `write_classes` meets its contract: the loop has written the classes below it (`with_column`), and nothing else.
-use Rattle.classes.specs.Ready.{Turn, ready_turn}
 use Rattle.classes.specs.Classes.{class_at}
-use Rattle.columns.specs.ColumnLaws.{with_none, with_next, with_length}
-use Rattle.columns.specs.Columns.{place, class_column, with_column}
+use Rattle.columns.specs.Columns.{class_column, with_column}
 use Rattle.meaning.specs.Rules.Trees.{node_count}
-use lib.ListN.{length, set}
-use borrow.Author.Rules.{rules}
-use native.Mathlib.Omega.{arith}
-use Prim.Native.Nat.{ℕ, ◌≤◌, ◌+◌, ◌-◌}
-use mathlib.Core.List.{List}
-use mathlib.Core.Path.{◌≡◌, sym, ap, ap₂, subst, ◌∙◌}
+use Prim.Native.Nat.{◌≤◌, ◌-◌}
+use mathlib.Core.Path.{◌≡◌}
 use Rattle.classes.proofs.write_classes.Given as goal
 
 abbrev pub invariant-loop-j : goal.invariant-loop-j

@@ -1,10 +1,9 @@
 use mathlib.Core.Path.{◌≡◌, refl, ◌∙◌}
-use mathlib.Core.List.{◌++◌, append-nil}
-use Prim.Native.Nat.{◌≤◌, ◌-◌, ◌+◌}
+use mathlib.Core.List.{append-nil}
+use Prim.Native.Nat.{◌-◌}
 use native.Mathlib.Omega.{arith}
-use borrow.Author.Rules.{rules}
 use borrow.Author.Fill.{fill_none, fill_more}
-use lib.ListN.{length, drop, replicate, length-set}
+use lib.ListN.{length, replicate, length-set}
 use lib.Seq.{drop-length}
 use Rattle.meaning.specs.Rules.Lent.{cleared}
 use Rattle.columns.proofs.clear.Goals as goal
@@ -13,8 +12,7 @@ pub loop-i-init : goal.loop-i-init
 loop-i-init c = (omega arith, refl, refl, fill_none c.args.work.now 0)
 
 pub loop-i-preserved : goal.loop-i-preserved
-loop-i-preserved c =
-    (
+loop-i-preserved c = (
   omega arith,
   c.loop-i.invariant.1,
   simp length-set c.loop-i.invariant.2,

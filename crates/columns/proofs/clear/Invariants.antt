@@ -1,12 +1,7 @@
-use mathlib.Core.Path.{◌≡◌, refl, ◌∙◌}
-use mathlib.Core.List.{◌++◌, append-nil}
-use Prim.Native.Nat.{◌≤◌, ◌-◌, ◌+◌}
-use native.Mathlib.Omega.{arith}
-use borrow.Author.Rules.{rules}
-use borrow.Author.Fill.{fill_none, fill_more}
-use lib.ListN.{length, drop, replicate, length-set}
-use lib.Seq.{drop-length}
-use Rattle.meaning.specs.Rules.Lent.{cleared}
+use mathlib.Core.Path.{◌≡◌}
+use mathlib.Core.List.{◌++◌}
+use Prim.Native.Nat.{◌≤◌, ◌-◌}
+use lib.ListN.{length, drop, replicate}
 use Rattle.columns.proofs.clear.Given as goal
 
 abbrev pub invariant-loop-i : goal.invariant-loop-i

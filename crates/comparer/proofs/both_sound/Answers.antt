@@ -1,5 +1,4 @@
 -- `both_sound` meets its contract: the second list is asked where the first is done, and leaves the first list prepared.
-use borrow.Author.Rules.{rules}
 use mathlib.Core.Path.{◌≡◌, sym, ap, ap₂, subst, ◌∙◌}
 use mathlib.Core.Logic.{◌≢◌}
 use mathlib.Core.List.{List}

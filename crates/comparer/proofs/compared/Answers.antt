@@ -1,5 +1,4 @@
 -- `compared` meets its contract: a list refused, the same tree, or trees that the assignments tell apart.
-use borrow.Author.Rules.{rules}
 use mathlib.Core.Path.{◌≡◌, sym, ap, subst, ◌∙◌}
 use mathlib.Core.Logic.{◌≢◌}
 use mathlib.Core.List.{List}
@@ -14,7 +13,7 @@ use Rattle.meaning.specs.Rules.Trees.{node_count}
 use Rattle.comparer.proofs.compared.Goals as goal
 
 pub both_sound-listed-requires : goal.both_sound-listed-requires
-both_sound-listed-requires c = 
+both_sound-listed-requires c =
     record {
       nodes_bound = c.requires.nodes_bound;
       second_nodes_in_bounds = c.requires.second_nodes_in_bounds;

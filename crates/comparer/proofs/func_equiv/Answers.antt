@@ -3,7 +3,6 @@ use Rattle.meaning.specs.Rules.Lent.{cleared}
 use Rattle.meaning.specs.Rules.Calls.{compared}
 use Rattle.columns.specs.ColumnLaws.{cleared_alike}
 use Rattle.sizes.specs.Lent.{lent_both_row, both_room}
-use borrow.Author.Rules.{rules}
 use mathlib.Core.Path.{◌≡◌, sym, ap, ap₂, ◌∙◌}
 use mathlib.Core.Logic.{◌≢◌}
 use mathlib.Core.List.{List}

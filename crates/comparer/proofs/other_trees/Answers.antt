@@ -5,7 +5,6 @@ use Rattle.meaning.specs.Rules.Assignments.{inputs}
 use Rattle.inputs.specs.Room.{blanks_length, undriven_length, fresh_undriven}
 use Rattle.inputs.specs.Inputs.{count_is, inputs_below}
 use Rattle.comparer.specs.Outcome.{few_passed, few_row, other_refused, other_searched}
-use borrow.Author.Rules.{rules}
 use mathlib.Core.Path.{◌≡◌, sym, ap, ◌∙◌}
 use mathlib.Core.Logic.{◌≢◌}
 use mathlib.Core.List.{List}

@@ -1,8 +1,6 @@
 -- `lowest_crossing` meets its contract: the first stage with a crossing has the lowest.
-use Rattle.crossings.specs.Stages.{NoneOf, none_of_none, stage_found, stage_none, none_crosses}
+use Rattle.crossings.specs.Stages.{none_of_none, stage_found, stage_none, none_crosses}
 use Rattle.crossings.specs.Searching.{Searchable}
-use Rattle.inputs.specs.Driving.{Drivable}
-use Rattle.rows.specs.Rows.{Prepared}
 use Rattle.meaning.specs.Rules.Separation.{crosses}
 use Rattle.meaning.specs.Rules.Search.{lowest}
 use Rattle.meaning.specs.Rules.Trees.{Tree, root_of}
@@ -13,11 +11,6 @@ use mathlib.Core.Path.{◌≡◌, refl, ◌∙◌}
 use lib.Pow.{pow_mono}
 use native.Mathlib.Decide.{dec_lt}
 use Prim.Native.Nat.{ℕ, ◌-◌, ◌^◌, ◌≤◌, ◌<◌}
-use Rattle.crossings.proofs.lowest_crossing.Reads as reads
-use Rattle.crossings.proofs.lowest_crossing.Lts as lts
-use Rattle.bits.proofs.power_of_two.Reads as power-of-two-reads
-use Rattle.crossings.proofs.lowest_of_stage.Reads as lowest-of-stage-reads
-use Rattle.crossings.proofs.stages.next_stage.Reads as next-stage-reads
 use Rattle.crossings.proofs.lowest_crossing.Goals as goal
 
 pub loop-places-init : goal.loop-places-init
@@ -58,7 +51,7 @@ next_stage-places-requires c =
     (omega (arith, room, c.loop-places.invariant.1), omega (arith, c.loop-places.invariant.1, given.few))
 
 pub lowest_of_stage-found-requires : goal.lowest_of_stage-found-requires
-lowest_of_stage-found-requires c = 
+lowest_of_stage-found-requires c =
     record {
       searchable = c.requires.searchable;
       places_in_bounds = omega (arith, c.next_stage-places.ensures.1, c.loop-places.invariant.1);

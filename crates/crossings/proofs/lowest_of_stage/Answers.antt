@@ -9,12 +9,6 @@ use native.Mathlib.Omega.{arith}
 use mathlib.Core.List.{List}
 use mathlib.Core.Path.{◌≡◌, sym, subst, ◌∙◌}
 use Prim.Native.Nat.{ℕ, ◌-◌, ◌%◌, ◌^◌, ◌≤◌, ◌<◌}
-use borrow.Author.Rules.{rules}
-use Rattle.crossings.proofs.lowest_of_stage.Reads as reads
-use Rattle.crossings.proofs.lowest_of_stage.Lts as lts
-use Rattle.bits.proofs.low_bits.Reads as low-bits-reads
-use Rattle.bits.proofs.power_of_two.Reads as power-of-two-reads
-use Rattle.crossings.proofs.blocks.lowest_of_blocks.Reads as lowest-of-blocks-reads
 use Rattle.crossings.proofs.lowest_of_stage.Goals as goal
 
 pub low_bits-marked-requires : goal.low_bits-marked-requires

@@ -12,7 +12,6 @@ use Prim.Native.Nat.{ℕ}
 use mathlib.Core.List.{List}
 use mathlib.Core.Logic.{◌≢◌}
 use mathlib.Core.Path.{◌≡◌, sym, ap, ap₂, ◌∙◌}
-use borrow.Author.Rules.{rules}
 use Rattle.evaluator.proofs.eval.Goals as goal
 
 pub returns-then-lent-ne-DONE : goal.returns-then-lent-ne-DONE

@@ -21,11 +21,10 @@ use Prim.Native.Nat.{ℕ, ◌+◌, ◌*◌, ◌-◌, ◌≤◌}
 use mathlib.Core.List.{List}
 use mathlib.Core.Logic.{◌≢◌}
 use mathlib.Core.Path.{◌≡◌, sym, ap, ap₂, subst, ◌∙◌}
-use borrow.Author.Rules.{rules}
 use Rattle.evaluator.proofs.evaluated.Goals as goal
 
 pub rest_refusal-refusal-requires : goal.rest_refusal-refusal-requires
-rest_refusal-refusal-requires c = 
+rest_refusal-refusal-requires c =
     record {
       nodes_bound = c.requires.nodes_bound;
       nodes_in_bounds = c.requires.nodes_in_bounds;

@@ -1,6 +1,5 @@
 -- `rest_refusal` meets its contract: test by test, in the order of the row.
 use Rattle.meaning.specs.Rules.Calls.{assigned, fits_pairs}
-use Rattle.meaning.specs.Rules.Evaluable.{sound}
 use Rattle.meaning.specs.Rules.Refusals.{◌then◌, require}
 use Rattle.meaning.specs.Rules.Numbers.{bad_assignment, short_output}
 use lib.Dec.{leb}
@@ -9,11 +8,10 @@ use Prim.Native.Nat.{ℕ, ◌*◌}
 use mathlib.Core.Bool.{Bool}
 use mathlib.Core.List.{List}
 use mathlib.Core.Path.{◌≡◌, ap, ap₂, ◌∙◌}
-use borrow.Author.Rules.{rules}
 use Rattle.evaluator.proofs.rest_refusal.Goals as goal
 
 pub sound-listed-requires : goal.sound-listed-requires
-sound-listed-requires c = 
+sound-listed-requires c =
     record {
       nodes_bound = c.requires.nodes_bound;
       nodes_in_bounds = omega (arith, c.requires.nodes_in_bounds);

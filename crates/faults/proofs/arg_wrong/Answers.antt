@@ -5,7 +5,6 @@ use Prim.Native.Nat.{ℕ, ◌<◌, ◌-◌}
 use lib.ListN.{length, get_or}
 use lib.Dec.{eqb, leb}
 use borrow.Author.Tests.{eq-eqb, ne_eqb}
-use borrow.Author.Rules.{rules}
 use native.Mathlib.Omega.{arith}
 use Rattle.meaning.specs.Rules.Trees.{kind_at, datum_at}
 use Rattle.meaning.specs.Rules.Kinds.{program_word}

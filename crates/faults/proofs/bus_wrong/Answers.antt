@@ -5,7 +5,6 @@ use Rattle.meaning.specs.Rules.Verification.{is_program, is_bus}
 use Rattle.meaning.specs.Rules.Refusals.{some}
 use Rattle.meaning.specs.Rules.Trees.{Tree}
 use Rattle.faults.specs.Leaves.{leaves, some_or}
-use borrow.Author.Rules.{rules}
 use Rattle.faults.proofs.bus_wrong.Goals as goal
 
 pub returns-then-any_of_kind : goal.returns-then-any_of_kind

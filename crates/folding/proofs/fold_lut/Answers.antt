@@ -8,7 +8,6 @@ use Rattle.folding.specs.declared.dropping.Next.TheVariants.{Drop, Stay}
 use Rattle.folding.specs.declared.Folded.{Folded}
 use Rattle.folding.specs.Folded.{Readable, Left, folded_tree, next_of}
 use Rattle.folding.specs.FoldedLaws.{Folding, folding_start, left_length, each_left, one_of, next_inside, folding_drop, folding_stay, folding_none, folding_one, one_is_left}
-use borrow.Author.Rules.{rules}
 use Rattle.folding.proofs.fold_lut.Goals as goal
 
 pub loop-count-init : goal.loop-count-init

@@ -8,7 +8,6 @@ use lib.Dec.{eqb}
 use Prim.Native.Nat.{ℕ, ◌-◌}
 use mathlib.Core.Bool.{true, false}
 use mathlib.Core.Path.{◌≡◌, sym, ap, ◌∙◌}
-use borrow.Author.Rules.{rules}
 use Rattle.folding.proofs.fold_one.Goals as goal
 
 pub returns-then-program-eq0 : goal.returns-then-program-eq0

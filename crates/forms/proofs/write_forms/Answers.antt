@@ -2,12 +2,11 @@
 use Rattle.forms.specs.Turns.{Turn, Beside, Passed, passed_none, passed_turn, passed_next}
 use Rattle.columns.specs.Columns.{place, number_column}
 use Rattle.meaning.specs.Rules.Trees.{node_count}
-use lib.ListN.{length, length-set}
+use lib.ListN.{length-set}
 use mathlib.Core.List.{List}
 use mathlib.Core.Path.{◌≡◌, refl, sym, subst, ◌∙◌}
-use Prim.Native.Nat.{ℕ, ◌<◌, ◌≤◌, ◌-◌}
+use Prim.Native.Nat.{ℕ, ◌<◌, ◌-◌}
 use native.Mathlib.Omega.{arith}
-use borrow.Author.Rules.{rules}
 use Rattle.forms.proofs.write_forms.Goals as goal
 
 pub loop-i-init : goal.loop-i-init

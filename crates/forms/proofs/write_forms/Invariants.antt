@@ -1,13 +1,9 @@
 -- `write_forms` meets its contract: the nodes below the loop have their normal forms and number 0 (`Passed`).
-use Rattle.forms.specs.Turns.{Turn, Beside, Passed, passed_none, passed_turn, passed_next}
-use Rattle.columns.specs.Columns.{place, number_column}
+use Rattle.forms.specs.Turns.{Passed}
 use Rattle.meaning.specs.Rules.Trees.{node_count}
-use lib.ListN.{length, length-set}
-use mathlib.Core.List.{List}
-use mathlib.Core.Path.{◌≡◌, refl, sym, subst, ◌∙◌}
-use Prim.Native.Nat.{ℕ, ◌<◌, ◌≤◌, ◌-◌}
-use native.Mathlib.Omega.{arith}
-use borrow.Author.Rules.{rules}
+use lib.ListN.{length}
+use mathlib.Core.Path.{◌≡◌}
+use Prim.Native.Nat.{◌≤◌, ◌-◌}
 use Rattle.forms.proofs.write_forms.Given as goal
 
 abbrev pub invariant-loop-i : goal.invariant-loop-i

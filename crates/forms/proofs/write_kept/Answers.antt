@@ -7,7 +7,6 @@ use lib.ListN.{length}
 use mathlib.Core.List.{List}
 use Prim.Native.Nat.{ℕ}
 use native.Mathlib.Omega.{arith}
-use borrow.Author.Rules.{rules}
 use Rattle.forms.proofs.write_kept.Goals as goal
 
 pub children_of-count-requires : goal.children_of-count-requires

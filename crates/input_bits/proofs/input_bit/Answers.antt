@@ -11,13 +11,6 @@ use native.Mathlib.Omega.{arith}
 use mathlib.Core.List.{List}
 use mathlib.Core.Path.{◌≡◌, sym, ap, subst, ◌∙◌}
 use Prim.Native.Nat.{ℕ, ◌^◌, ◌<◌}
-use borrow.Author.Rules.{rules}
-use Rattle.input_bits.proofs.input_bit.Reads as reads
-use Rattle.input_bits.proofs.input_bit.Lts as lts
-use Rattle.bits.proofs.power_of_two.Reads as power-of-two-reads
-use Rattle.columns.proofs.get.Reads as get-reads
-use Rattle.nodes.proofs.first_of.Reads as first-of-reads
-use Rattle.nodes.proofs.kind_of.Reads as kind-of-reads
 use Rattle.input_bits.proofs.input_bit.Goals as goal
 
 pub returns-then-kind_of-ne-VARIABLE : goal.returns-then-kind_of-ne-VARIABLE

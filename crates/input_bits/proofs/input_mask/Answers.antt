@@ -1,25 +1,18 @@
 -- `input_mask` meets its contract: the mask has the variables among the nodes below the loop's.
 use Rattle.bits.specs.Bit.{bit_zero}
-use Rattle.input_bits.specs.Seen.{SeenTo, seen_next, seen_all}
-use Rattle.meaning.specs.Rules.Trees.{node_count}
+use Rattle.input_bits.specs.Seen.{seen_next, seen_all}
 use lib.Bits.{or_lt}
 use lib.Pow.{pow_pos}
 use native.Mathlib.Omega.{arith}
 use mathlib.Core.List.{List}
-use mathlib.Core.Path.{◌≡◌}
-use Prim.Native.Nat.{ℕ, ◌-◌, ◌^◌, ◌≤◌, ◌<◌}
-use borrow.Author.Rules.{rules}
-use Rattle.input_bits.proofs.input_mask.Reads as reads
-use Rattle.input_bits.proofs.input_mask.Lts as lts
-use Rattle.input_bits.proofs.input_bit.Reads as input-bit-reads
-use Rattle.nodes.proofs.node_count.Reads as node-count-reads
+use Prim.Native.Nat.{ℕ, ◌-◌}
 use Rattle.input_bits.proofs.input_mask.Goals as goal
 
 pub loop-i-init : goal.loop-i-init
 loop-i-init c = (omega arith, c.node_count-count.ensures, pow_pos c.args.n, bit_zero)
 
 pub input_bit-mask-requires : goal.input_bit-mask-requires
-input_bit-mask-requires c = 
+input_bit-mask-requires c =
     record {
       prepared = c.requires.prepared;
       n_le_most_inputs = c.requires.n_le_most_inputs;

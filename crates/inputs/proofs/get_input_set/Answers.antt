@@ -1,12 +1,11 @@
 -- `get_input_set` meets its contract: the variables tried so far that occur are kept, in order.
 use Rattle.inputs.specs.Inputs.{keep_count, keep_turn, all_tried}
-use Rattle.meaning.specs.Rules.Assignments.{occurs, select}
+use Rattle.meaning.specs.Rules.Assignments.{occurs}
 use Rattle.meaning.specs.Rules.Trees.{root_of}
 use Rattle.meaning.specs.Rules.Limits.{variable_count}
-use lib.ListN.{length, take}
-use borrow.Author.Rules.{rules}
+use lib.ListN.{length}
 use native.Mathlib.Omega.{arith}
-use Prim.Native.Nat.{ℕ, ◌≤◌, ◌<◌, ◌-◌}
+use Prim.Native.Nat.{ℕ, ◌<◌, ◌-◌}
 use mathlib.Core.Bool.{Bool}
 use mathlib.Core.Path.{◌≡◌, refl, ◌∙◌}
 use Rattle.inputs.proofs.get_input_set.Goals as goal
@@ -24,8 +23,7 @@ pub loop-v-preserved : goal.loop-v-preserved
 loop-v-preserved c =
     let p : ℕ → Bool = λ v. occurs v (root_of c.args.nodes.now c.args.pool.now) in
     let inside : c.loop-v.count < length c.loop-v.variables = omega (arith, c.requires.variables_len, c.loop-v.invariant.1, c.loop-v.invariant.2) in
-    let found : Bool = c.occurs-found.result in
-    (
+    let found : Bool = c.occurs-found.result in (
       omega arith,
       keep_count found c.loop-v.count c.loop-v.v c.keep-count.result c.keep-count.ensures.value c.loop-v.invariant.1,
       c.keep-count.auto.variables ∙ c.loop-v.invariant.2,

@@ -1,14 +1,10 @@
 -- `get_input_set` meets its contract: the variables tried so far that occur are kept, in order.
-use Rattle.inputs.specs.Inputs.{keep_count, keep_turn, all_tried}
 use Rattle.meaning.specs.Rules.Assignments.{occurs, select}
 use Rattle.meaning.specs.Rules.Trees.{root_of}
 use Rattle.meaning.specs.Rules.Limits.{variable_count}
 use lib.ListN.{length, take}
-use borrow.Author.Rules.{rules}
-use native.Mathlib.Omega.{arith}
-use Prim.Native.Nat.{ℕ, ◌≤◌, ◌<◌, ◌-◌}
-use mathlib.Core.Bool.{Bool}
-use mathlib.Core.Path.{◌≡◌, refl, ◌∙◌}
+use Prim.Native.Nat.{◌≤◌, ◌-◌}
+use mathlib.Core.Path.{◌≡◌}
 use Rattle.inputs.proofs.get_input_set.Given as goal
 
 abbrev pub invariant-loop-v : goal.invariant-loop-v

@@ -3,7 +3,6 @@ use Rattle.meaning.specs.Rules.Trees.{kind_at, first_at}
 use Rattle.meaning.specs.Rules.Kinds.{variable_word}
 use lib.Dec.{eqb, ltb}
 use borrow.Author.Tests.{eq-eqb, ne_eqb}
-use borrow.Author.Rules.{rules}
 use native.Mathlib.Omega.{arith}
 use Prim.Native.Nat.{ℕ}
 use mathlib.Core.Bool.{true, false}

@@ -1,10 +1,8 @@
 -- `occurs` meets its contract: no node so far is the variable, so the first that is decides.
 use Rattle.inputs.specs.Inputs.{is_input, input_found, input_none}
-use Rattle.meaning.specs.Rules.Trees.{node_count}
 use borrow.Author.Count.{below_more}
-use borrow.Author.Rules.{rules}
 use native.Mathlib.Omega.{arith}
-use Prim.Native.Nat.{ℕ, ◌≤◌, ◌<◌, ◌-◌}
+use Prim.Native.Nat.{ℕ, ◌-◌}
 use mathlib.Core.Bool.{false}
 use mathlib.Core.List.{List}
 use mathlib.Core.Path.{◌≡◌, sym, ◌∙◌}
@@ -14,7 +12,7 @@ pub loop-i-init : goal.loop-i-init
 loop-i-init c = (omega arith, c.node_count-n.ensures, λ k l. absurd (omega arith))
 
 pub is_input-requires : goal.is_input-requires
-is_input-requires c = 
+is_input-requires c =
     record {
       prepared = c.requires;
       i_bound = omega arith;

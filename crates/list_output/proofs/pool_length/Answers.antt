@@ -3,10 +3,9 @@ use Rattle.list_output.specs.Sizes.{child_few, size_none, size_next, size_small}
 use Rattle.list_output.specs.Words.{child_count, pool_size}
 use Rattle.listed.specs.Entries.{listed_at}
 use mathlib.Core.List.{List}
-use Prim.Native.Nat.{ℕ, ◌-◌, ◌≤◌}
+use Prim.Native.Nat.{ℕ, ◌-◌}
 use mathlib.Core.Path.{◌≡◌, sym, ap, ◌∙◌}
 use native.Mathlib.Omega.{arith}
-use borrow.Author.Rules.{rules}
 use Rattle.list_output.proofs.pool_length.Goals as goal
 
 pub loop-k-init : goal.loop-k-init

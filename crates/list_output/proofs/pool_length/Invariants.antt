@@ -1,12 +1,7 @@
 -- `pool_length` meets its contract: the loop has counted the children of the entries below it.
-use Rattle.list_output.specs.Sizes.{child_few, size_none, size_next, size_small}
-use Rattle.list_output.specs.Words.{child_count, pool_size}
-use Rattle.listed.specs.Entries.{listed_at}
-use mathlib.Core.List.{List}
-use Prim.Native.Nat.{ℕ, ◌-◌, ◌≤◌}
-use mathlib.Core.Path.{◌≡◌, sym, ap, ◌∙◌}
-use native.Mathlib.Omega.{arith}
-use borrow.Author.Rules.{rules}
+use Rattle.list_output.specs.Words.{pool_size}
+use Prim.Native.Nat.{◌-◌, ◌≤◌}
+use mathlib.Core.Path.{◌≡◌}
 use Rattle.list_output.proofs.pool_length.Given as goal
 
 abbrev pub invariant-loop-k : goal.invariant-loop-k

@@ -3,16 +3,14 @@ use Rattle.list_output.specs.Canonical.{listing_rows, listing_numbers, listing_p
 use Rattle.list_output.specs.Writing.{pool_begin, pool_more}
 use Rattle.list_output.specs.Stores.{sets_written}
 use Rattle.list_output.specs.Sizes.{size_none, size_next, size_within}
-use Rattle.list_output.specs.Words.{Rows, entry_part, child_count, pool_size, row_pool}
+use Rattle.list_output.specs.Words.{Rows, entry_part, child_count, row_pool}
 use Rattle.listed.specs.Entries.{listed_at}
 use Rattle.meaning.specs.Rules.Canonical.{canonical_pool}
-use lib.ListN.{length}
 use lib.Seq.{sets}
 use mathlib.Core.List.{List}
 use mathlib.Core.Path.{ap₂, ◌≡◌, refl, sym, ap, ◌∙◌}
-use Prim.Native.Nat.{ℕ, ◌-◌, ◌≤◌}
+use Prim.Native.Nat.{ℕ, ◌-◌}
 use native.Mathlib.Omega.{arith}
-use borrow.Author.Rules.{rules}
 use Rattle.list_output.proofs.write_pool.Goals as goal
 
 pub loop-k-init : goal.loop-k-init

@@ -1,9 +1,8 @@
 -- `is_form` meets its contract: an odd entry is none; else the rows are compared.
 use Rattle.listed.specs.Likeness.{entry_is_form}
 use borrow.Author.Tests.{eq-eqb, ne_eqb}
-use Prim.Native.Nat.{◌-◌, ◌/◌, ◌%◌}
+use Prim.Native.Nat.{◌-◌, ◌%◌}
 use mathlib.Core.Path.{sym}
-use borrow.Author.Rules.{rules}
 use Rattle.listed.proofs.is_form.Goals as goal
 
 pub returns-then-entry-ne0 : goal.returns-then-entry-ne0

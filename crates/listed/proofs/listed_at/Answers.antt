@@ -1,7 +1,5 @@
 -- `listed_at` meets its contract: the cell of the entry's column and row.
 use Rattle.listed.specs.Entries.{listed_at}
-use Prim.Native.Nat.{◌-◌, ◌/◌}
-use borrow.Author.Rules.{rules}
 use Rattle.listed.proofs.listed_at.Goals as goal
 
 pub returns : goal.returns

@@ -1,10 +1,9 @@
 -- `enter` meets its contract: a Program listed, then three stores.
 use Rattle.columns.specs.Columns.{stack_column, next_column, place, number_column}
 use lib.ListN.{set}
-use Prim.Native.Nat.{ℕ, ◌-◌, ◌/◌}
+use Prim.Native.Nat.{ℕ, ◌-◌}
 use mathlib.Core.List.{List}
 use mathlib.Core.Path.{refl, ap, ◌∙◌}
-use borrow.Author.Rules.{rules}
 use Rattle.listing.proofs.enter.Goals as goal
 
 pub returns : goal.returns

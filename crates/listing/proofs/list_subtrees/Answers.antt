@@ -1,16 +1,13 @@
 -- `list_subtrees` meets its contract: the walk begins at the root's home, and at its end all is seen.
 use Rattle.listing.specs.Ends.{begin, ended}
 use Rattle.listing.specs.Turn.{visit_reads, visit_entry, visit_depth, visit_row, visit_turn}
-use Rattle.listing.specs.Steps.{turns}
 use Rattle.listing.specs.Walk.{Walk, Visit}
 use Rattle.columns.specs.Columns.{cell, home_column}
 use Rattle.meaning.specs.Rules.Trees.{node_count}
-use lib.ListN.{length}
 use Prim.Native.Nat.{ℕ, ◌-◌}
 use mathlib.Core.List.{List}
 use mathlib.Core.Path.{◌≡◌, refl, sym, ap, subst, ◌∙◌}
 use native.Mathlib.Omega.{arith}
-use borrow.Author.Rules.{rules}
 use Rattle.listing.proofs.list_subtrees.Goals as goal
 
 pub overflow_sub-node_count : goal.overflow_sub-node_count
@@ -53,7 +50,7 @@ loop-at-init c =
     ((visit_turn visit c.enter-at.new.work c.enter-at.result.depth c.enter-at.result.count c.enter-at.ensures.work_after c.enter-at.ensures.depth_value.0 c.enter-at.ensures.depth_value.1).0, refl)
 
 pub turn-at-requires : goal.turn-at-requires
-turn-at-requires c = 
+turn-at-requires c =
     record {
       walk = c.loop-at.invariant.0;
       depth_nonzero = c.loop-at-test.true;

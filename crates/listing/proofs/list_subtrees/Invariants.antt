@@ -1,16 +1,10 @@
 -- `list_subtrees` meets its contract: the walk begins at the root's home, and at its end all is seen.
-use Rattle.listing.specs.Ends.{begin, ended}
-use Rattle.listing.specs.Turn.{visit_reads, visit_entry, visit_depth, visit_row, visit_turn}
 use Rattle.listing.specs.Steps.{turns}
-use Rattle.listing.specs.Walk.{Walk, Visit}
-use Rattle.columns.specs.Columns.{cell, home_column}
+use Rattle.listing.specs.Walk.{Walk}
 use Rattle.meaning.specs.Rules.Trees.{node_count}
 use lib.ListN.{length}
-use Prim.Native.Nat.{ℕ, ◌-◌}
-use mathlib.Core.List.{List}
-use mathlib.Core.Path.{◌≡◌, refl, sym, ap, subst, ◌∙◌}
-use native.Mathlib.Omega.{arith}
-use borrow.Author.Rules.{rules}
+use Prim.Native.Nat.{◌-◌}
+use mathlib.Core.Path.{◌≡◌}
 use Rattle.listing.proofs.list_subtrees.Given as goal
 
 abbrev pub invariant-loop-at : goal.invariant-loop-at

@@ -5,7 +5,6 @@ use mathlib.Core.Bool.{cond}
 use mathlib.Core.Path.{◌≡◌, sym, ap₂, ◌∙◌}
 use mathlib.Core.List.{List}
 use lib.ListN.{length}
-use borrow.Author.Rules.{rules}
 use native.Mathlib.Omega.{arith}
 use Rattle.meaning.specs.Rules.Trees.{children_at}
 use Rattle.lists.specs.Laid.{part_fits}
@@ -27,7 +26,7 @@ pub handed_on-handed-requires : goal.handed_on-handed-requires
 handed_on-handed-requires c = omega (arith, c.get-mark.ensures, c.requires.p_bound_2)
 
 pub children_of-requires : goal.children_of-requires
-children_of-requires c = 
+children_of-requires c =
     record {
       i_bound = c.requires.p_bound;
       part_fits = part_fits c.args.nodes.now c.args.pool.now c.args.p c.requires.well_laid;

@@ -5,7 +5,6 @@ use mathlib.Core.Path.{◌≡◌, sym, ◌∙◌}
 use mathlib.Core.Bool.{cond}
 use Prim.Native.Nat.{ℕ, suc}
 use native.Mathlib.Numerals.{add-one}
-use borrow.Author.Rules.{rules}
 use Rattle.marks.proofs.handed_on.Goals as goal
 
 pub returns-then-kind-eq-CYCLE : goal.returns-then-kind-eq-CYCLE

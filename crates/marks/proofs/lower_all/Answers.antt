@@ -1,9 +1,8 @@
 use mathlib.Core.Path.{◌≡◌, refl, sym, ap, ap₂, ◌∙◌}
 use mathlib.Core.List.{List}
-use Prim.Native.Nat.{ℕ, ◌≤◌, ◌-◌, ◌+◌}
+use Prim.Native.Nat.{ℕ, ◌-◌, ◌+◌}
 use native.Mathlib.Omega.{arith}
-use borrow.Author.Rules.{rules}
-use lib.ListN.{length, get_or, drop, set}
+use lib.ListN.{get_or, drop, set}
 use Rattle.meaning.specs.Rules.Reach.{nearer}
 use Rattle.columns.specs.Columns.{place, cell, mark_column}
 use Rattle.marks.specs.Handing.{lower_one, lowered, lowered_more, lowered_done}

@@ -1,12 +1,7 @@
-use mathlib.Core.Path.{◌≡◌, refl, sym, ap, ap₂, ◌∙◌}
-use mathlib.Core.List.{List}
-use Prim.Native.Nat.{ℕ, ◌≤◌, ◌-◌, ◌+◌}
-use native.Mathlib.Omega.{arith}
-use borrow.Author.Rules.{rules}
-use lib.ListN.{length, get_or, drop, set}
-use Rattle.meaning.specs.Rules.Reach.{nearer}
-use Rattle.columns.specs.Columns.{place, cell, mark_column}
-use Rattle.marks.specs.Handing.{lower_one, lowered, lowered_more, lowered_done}
+use mathlib.Core.Path.{◌≡◌}
+use Prim.Native.Nat.{◌≤◌, ◌-◌}
+use lib.ListN.{length, drop}
+use Rattle.marks.specs.Handing.{lowered}
 use Rattle.marks.proofs.lower_all.Given as goal
 
 abbrev pub invariant-loop-at : goal.invariant-loop-at

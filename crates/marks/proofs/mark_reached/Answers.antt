@@ -2,7 +2,6 @@ use mathlib.Core.Path.{◌≡◌, sym, ap, ap₂, ◌∙◌}
 use mathlib.Core.List.{List}
 use Prim.Native.Nat.{ℕ, suc, ◌≤◌, ◌<◌, ◌+◌, ◌-◌, ◌*◌}
 use lib.ListN.{length}
-use borrow.Author.Rules.{rules}
 use native.Mathlib.Omega.{arith}
 use Rattle.meaning.specs.Rules.Reach.{mark_of}
 use Rattle.meaning.specs.Rules.Trees.{node_count}

@@ -1,11 +1,6 @@
-use mathlib.Core.Path.{◌≡◌, sym, ap, ap₂, ◌∙◌}
-use mathlib.Core.List.{List}
-use Prim.Native.Nat.{ℕ, ◌≤◌, ◌-◌, ◌+◌}
-use native.Mathlib.Omega.{arith}
-use borrow.Author.Rules.{rules}
-use lib.ListN.{length, set}
-use Rattle.columns.specs.ColumnLaws.{with_none, with_next, with_length}
-use Rattle.columns.specs.Columns.{place, mark_column, with_column}
+use mathlib.Core.Path.{◌≡◌}
+use Prim.Native.Nat.{◌≤◌, ◌-◌}
+use Rattle.columns.specs.Columns.{mark_column, with_column}
 use Rattle.marks.specs.Handing.{only_root}
 use Rattle.marks.proofs.mark_root.Given as goal
 

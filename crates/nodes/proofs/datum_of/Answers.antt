@@ -1,6 +1,5 @@
 -- `datum_of` meets its contract: the definition's two tests of the kind, in its order.
 use Prim.Native.Nat.{ℕ}
-use borrow.Author.Rules.{rules}
 use borrow.Author.Tests.{lt-ltb, le-ltb, eq-eqb, ne_eqb}
 use lib.Dec.{ltb, eqb}
 use mathlib.Core.Bool.{false, true}

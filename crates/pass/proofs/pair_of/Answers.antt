@@ -6,7 +6,6 @@ use Rattle.answer_words.specs.declared.Words.{Words}
 use Rattle.accepted.specs.Nodes.{Logic}
 use Rattle.meaning.specs.Rules.Assignments.{given}
 use Rattle.meaning.specs.Rules.Answers.{state_of, value_of}
-use borrow.Author.Rules.{rules}
 use native.Mathlib.Omega.{arith}
 use mathlib.Core.Path.{sym, ap, ◌∙◌}
 use Rattle.pass.proofs.pair_of.Goals as goal
@@ -34,7 +33,7 @@ returns-then-kind_of-eq-PROGRAM c =
     }
 
 pub answer_of-requires : goal.answer_of-requires
-answer_of-requires c = 
+answer_of-requires c =
     record {
       filled = c.requires.filled;
       logic = record { inside = c.requires.n_bound; marked = omega (arith, c.requires.filled.ready.marks c.args.n c.requires.n_bound, c.get.ensures, c.if-get-eq0.false); no_program = λ e. c.if-kind_of-eq-PROGRAM.false (c.kind_of.ensures ∙ e) };

@@ -3,8 +3,7 @@ use Rattle.pass.specs.Written.{with_pairs_to, pairs_none, pairs_next, pairs_leng
 use Rattle.meaning.specs.Rules.Assignments.{given}
 use Rattle.meaning.specs.Rules.Trees.{node_count}
 use lib.ListN.{length}
-use Prim.Native.Nat.{ℕ, ◌-◌, ◌≤◌}
-use borrow.Author.Rules.{rules}
+use Prim.Native.Nat.{ℕ, ◌-◌}
 use native.Mathlib.Omega.{arith}
 use mathlib.Core.Path.{◌≡◌, sym, ap, ◌∙◌}
 use Rattle.pass.proofs.pass.Goals as goal
@@ -13,7 +12,7 @@ pub loop-i-init : goal.loop-i-init
 loop-i-init c = (omega arith, c.node_count-n.ensures, sym (pairs_none c.args.nodes.now c.args.pool.now (given c.args.bytes.now) c.args.base c.args.work.now))
 
 pub pair_of-pair-requires : goal.pair_of-pair-requires
-pair_of-pair-requires c = 
+pair_of-pair-requires c =
     record {
       filled = rw c.loop-i.invariant.2 (filled_to c.args.nodes.now c.args.pool.now (given c.args.bytes.now) c.args.base c.args.work.now c.requires c.loop-i.i (omega (arith, c.loop-i.invariant.1)));
       n_bound = omega (arith, c.loop-i.invariant.1);

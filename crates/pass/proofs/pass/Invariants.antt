@@ -1,12 +1,9 @@
 -- `pass` meets its contract: the loop has written the pairs below it (`with_pairs_to`), and nothing else.
-use Rattle.pass.specs.Written.{with_pairs_to, pairs_none, pairs_next, pairs_length, filled_to}
+use Rattle.pass.specs.Written.{with_pairs_to}
 use Rattle.meaning.specs.Rules.Assignments.{given}
 use Rattle.meaning.specs.Rules.Trees.{node_count}
-use lib.ListN.{length}
-use Prim.Native.Nat.{ℕ, ◌-◌, ◌≤◌}
-use borrow.Author.Rules.{rules}
-use native.Mathlib.Omega.{arith}
-use mathlib.Core.Path.{◌≡◌, sym, ap, ◌∙◌}
+use Prim.Native.Nat.{◌-◌, ◌≤◌}
+use mathlib.Core.Path.{◌≡◌}
 use Rattle.pass.proofs.pass.Given as goal
 
 abbrev pub invariant-loop-i : goal.invariant-loop-i

@@ -9,12 +9,6 @@ use native.Mathlib.Omega.{arith}
 use mathlib.Core.List.{List}
 use mathlib.Core.Path.{◌≡◌}
 use Prim.Native.Nat.{ℕ, ◌+◌, ◌-◌, ◌<◌}
-use borrow.Author.Rules.{rules}
-use Rattle.roots.proofs.root_under.Reads as reads
-use Rattle.roots.proofs.root_under.Lts as lts
-use Rattle.nodes.proofs.node_count.Reads as node-count-reads
-use Rattle.pass.proofs.pass.Reads as pass-reads
-use Rattle.rows.proofs.answer_at.Reads as answer-at-reads
 use Rattle.roots.proofs.root_under.Goals as goal
 
 pub overflow_sub-end : goal.overflow_sub-end

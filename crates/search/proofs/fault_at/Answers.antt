@@ -7,8 +7,6 @@ use Rattle.meaning.specs.Rules.Reach.{mark_of}
 use Rattle.meaning.specs.Rules.Numbers.{wide_gate}
 use Rattle.meaning.specs.Rules.Kinds.{is_gate}
 use Rattle.meaning.specs.Rules.Trees.{node_count, kind_at}
-use native.Mathlib.Omega.{arith}
-use borrow.Author.Rules.{rules}
 use lib.Dec.{ltb, eqb}
 use Prim.Native.Nat.{ℕ, ◌<◌}
 use mathlib.Core.Bool.{cond, not, ◌&&◌}

@@ -1,8 +1,7 @@
 use mathlib.Core.Path.{◌≡◌, sym, ap, ◌∙◌}
 use mathlib.Core.List.{List}
-use Prim.Native.Nat.{ℕ, ◌≤◌, ◌<◌, ◌-◌}
+use Prim.Native.Nat.{ℕ, ◌-◌}
 use borrow.Author.Count.{below_more}
-use borrow.Author.Rules.{rules}
 use native.Mathlib.Omega.{arith}
 use Rattle.meaning.specs.Rules.Refusals.{refuse}
 use Rattle.meaning.specs.Rules.Trees.{node_count}
@@ -13,7 +12,7 @@ pub loop-i-init : goal.loop-i-init
 loop-i-init c = (omega arith, c.node_count-n.ensures, λ j l. absurd (omega arith))
 
 pub fault_at-fault-requires : goal.fault_at-fault-requires
-fault_at-fault-requires c = 
+fault_at-fault-requires c =
     record {
       i_bound = omega arith;
       ready = c.requires.ready;

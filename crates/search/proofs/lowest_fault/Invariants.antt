@@ -1,12 +1,7 @@
-use mathlib.Core.Path.{◌≡◌, sym, ap, ◌∙◌}
-use mathlib.Core.List.{List}
+use mathlib.Core.Path.{◌≡◌}
 use Prim.Native.Nat.{ℕ, ◌≤◌, ◌<◌, ◌-◌}
-use borrow.Author.Count.{below_more}
-use borrow.Author.Rules.{rules}
-use native.Mathlib.Omega.{arith}
-use Rattle.meaning.specs.Rules.Refusals.{refuse}
 use Rattle.meaning.specs.Rules.Trees.{node_count}
-use Rattle.search.specs.Search.{fault_of, search_found, search_none}
+use Rattle.search.specs.Search.{fault_of}
 use Rattle.search.proofs.lowest_fault.Given as goal
 
 abbrev pub invariant-loop-i : goal.invariant-loop-i

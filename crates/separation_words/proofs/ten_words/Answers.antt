@@ -1,6 +1,5 @@
 -- `ten_words` meets its contract: each word is that of its field.
 use mathlib.Core.Path.{refl, ◌∙◌}
-use borrow.Author.Rules.{rules}
 use Rattle.separation_words.proofs.ten_words.Goals as goal
 
 pub returns : goal.returns

@@ -16,15 +16,6 @@ use mathlib.Core.List.{List}
 use mathlib.Core.Logic.{◌≢◌}
 use mathlib.Core.Path.{◌≡◌, sym, ap, ap₂, subst, ◌∙◌}
 use Prim.Native.Nat.{ℕ, ◌+◌, ◌*◌, ◌≤◌}
-use borrow.Author.Rules.{rules}
-use Rattle.separator.proofs.judged.Reads as reads
-use Rattle.separator.proofs.judged.Lts as lts
-use Rattle.bounds.proofs.bounded.Reads as bounded-reads
-use Rattle.nodes.proofs.wide.Reads as wide-reads
-use Rattle.refusals.proofs.first_refusal.Reads as first-refusal-reads
-use Rattle.separations.proofs.refused.Reads as refused-reads
-use Rattle.separator.proofs.judgement.Reads as judgement-reads
-use Rattle.verifier.proofs.sound.Reads as sound-reads
 use Rattle.separator.proofs.judged.Goals as goal
 
 pub sound-listed-requires : goal.sound-listed-requires

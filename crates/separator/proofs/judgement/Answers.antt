@@ -12,14 +12,6 @@ use mathlib.Core.Bool.{true}
 use mathlib.Core.List.{List}
 use mathlib.Core.Path.{◌≡◌, sym, ap, ◌∙◌}
 use Prim.Native.Nat.{ℕ, ◌≤◌}
-use borrow.Author.Rules.{rules}
-use Rattle.separator.proofs.judgement.Reads as reads
-use Rattle.separator.proofs.judgement.Lts as lts
-use Rattle.input_bits.proofs.input_mask.Reads as input-mask-reads
-use Rattle.inputs.proofs.driving.no_variables.Reads as no-variables-reads
-use Rattle.inputs.proofs.driving.undriven.Reads as undriven-reads
-use Rattle.separator.proofs.numbered.name_variables.Reads as name-variables-reads
-use Rattle.separator.proofs.searched.Reads as searched-reads
 use Rattle.separator.proofs.judgement.Goals as goal
 
 pub name_variables-requires : goal.name_variables-requires

@@ -8,18 +8,10 @@ use native.Mathlib.Omega.{arith}
 use mathlib.Core.List.{List}
 use mathlib.Core.Path.{◌≡◌, sym, ◌∙◌}
 use Prim.Native.Nat.{ℕ, ◌^◌}
-use borrow.Author.Rules.{rules}
-use Rattle.separator.proofs.searched.Reads as reads
-use Rattle.separator.proofs.searched.Lts as lts
-use Rattle.bits.proofs.power_of_two.Reads as power-of-two-reads
-use Rattle.crossings.proofs.lowest_crossing.Reads as lowest-crossing-reads
-use Rattle.crossings.proofs.trial.answer_under.Reads as answer-under-reads
-use Rattle.separations.proofs.crossing_at.Reads as crossing-at-reads
-use Rattle.separations.proofs.separated.Reads as separated-reads
 use Rattle.separator.proofs.searched.Goals as goal
 
 pub lowest_crossing-index-requires : goal.lowest_crossing-index-requires
-lowest_crossing-index-requires c = 
+lowest_crossing-index-requires c =
     record {
       searchable = c.requires.searchable;
       prepared = c.requires.prepared;
@@ -57,7 +49,7 @@ returns-then-index-power_of_two c =
     c.separated.ensures ∙ no_crossing t n marks (sym found ∙ c.if-index-power_of_two.true ∙ c.power_of_two.ensures)
 
 pub answer_under-run-requires : goal.answer_under-run-requires
-answer_under-run-requires c = 
+answer_under-run-requires c =
     record {
       variables_value = c.requires.searchable.numbered;
       prepared = c.lowest_crossing-index.ensures.prepared_2;
@@ -65,7 +57,7 @@ answer_under-run-requires c =
     }
 
 pub answer_under-cleared-requires : goal.answer_under-cleared-requires
-answer_under-cleared-requires c = 
+answer_under-cleared-requires c =
     record {
       variables_value = c.requires.searchable.numbered;
       prepared = c.answer_under-run.ensures.prepared_2;

@@ -13,13 +13,6 @@ use mathlib.Core.List.{List}
 use mathlib.Core.Logic.{◌≢◌}
 use mathlib.Core.Path.{◌≡◌, sym, ap, ap₂, ◌∙◌}
 use Prim.Native.Nat.{ℕ}
-use borrow.Author.Rules.{rules}
-use Rattle.separator.proofs.separate.Reads as reads
-use Rattle.separator.proofs.separate.Lts as lts
-use Rattle.columns.proofs.clear.Reads as clear_reads
-use Rattle.separations.proofs.refused.Reads as refused-reads
-use Rattle.separator.proofs.judged.Reads as judged-reads
-use Rattle.sizes.proofs.lent.Reads as Lent-reads
 use Rattle.separator.proofs.separate.Goals as goal
 
 pub returns-then-lent-ne-DONE : goal.returns-then-lent-ne-DONE

@@ -8,7 +8,6 @@ use Prim.Native.Nat.{ℕ}
 use mathlib.Core.List.{List}
 use mathlib.Core.Logic.{◌≢◌}
 use mathlib.Core.Path.{◌≡◌, sym, ap, ◌∙◌}
-use borrow.Author.Rules.{rules}
 use Rattle.sizes.proofs.lent.Goals as goal
 
 pub returns-then-sized-ne-DONE : goal.returns-then-sized-ne-DONE

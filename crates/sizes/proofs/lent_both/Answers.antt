@@ -11,7 +11,6 @@ use Rattle.meaning.specs.Rules.Layout.{sizes, work_for, room}
 use Rattle.meaning.proofs.Laws.NumberLaws.{then_go, then_stop, then_joined}
 use Rattle.meaning.proofs.Laws.RefusalLaws.{then_first, then_rest}
 use Rattle.sizes.specs.Within.{sizes_within}
-use borrow.Author.Rules.{rules}
 use Rattle.sizes.proofs.lent_both.Goals as goal
 
 pub returns-then-both-ne-DONE : goal.returns-then-both-ne-DONE

@@ -1,5 +1,4 @@
 -- `sizes` meets its contract: number 1, then number 2.
-use borrow.Author.Rules.{rules}
 use mathlib.Core.Path.{◌∙◌}
 use Rattle.meaning.specs.Rules.Layout.{sizes}
 use Rattle.sizes.proofs.sizes.Goals as goal

@@ -1,6 +1,5 @@
 -- `within_limits` meets its contract: the nodes, then the pool.
 use Prim.Native.Nat.{ℕ}
-use borrow.Author.Rules.{rules}
 use borrow.Author.Tests.{le-leb, lt-leb}
 use lib.Dec.{leb}
 use mathlib.Core.Bool.{false, true}

@@ -3,8 +3,6 @@ use Rattle.subsets.specs.Next.{next_is}
 use native.Mathlib.Omega.{arith}
 use mathlib.Core.Path.{◌≡◌}
 use Prim.Native.Nat.{ℕ, ◌+◌, ◌-◌, ◌^◌, ◌<◌}
-use Rattle.subsets.proofs.next_among.Reads as reads
-use Rattle.subsets.proofs.next_among.Lts as lts
 use Rattle.subsets.proofs.next_among.Goals as goal
 
 pub overflow_sub-result : goal.overflow_sub-result

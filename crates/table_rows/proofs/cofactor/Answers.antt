@@ -3,7 +3,6 @@ use lib.Pow.{pow_mono}
 use mathlib.Core.Path.{◌≡◌, refl, ◌∙◌}
 use Prim.Native.Nat.{◌+◌, ◌-◌, ◌^◌, ◌<◌, ◌≤◌}
 use native.Mathlib.Omega.{arith}
-use borrow.Author.Rules.{rules}
 use Rattle.meaning.specs.Rules.Words.{bit_at}
 use Rattle.meaning.specs.Rules.Tables as meant
 use Rattle.table_rows.specs.RowLaws.{row_room, row_added, insert_lt}
@@ -34,12 +33,11 @@ join-made-requires c =
     c.insert_bit.ensures c.bit_at.ensures c.loop-i.invariant.1 (omega arith)
 
 pub loop-i-preserved : goal.loop-i-preserved
-loop-i-preserved c =
-    (
-      omega arith,
-      c.join-made.ensures ∙ row_added c.args.p (meant.insert_bit c.args.q c.args.b) c.loop-i.i
-          c.insert_bit.ensures c.bit_at.ensures c.loop-i.invariant.1,
-    )
+loop-i-preserved c = (
+  omega arith,
+  c.join-made.ensures ∙ row_added c.args.p (meant.insert_bit c.args.q c.args.b) c.loop-i.i
+      c.insert_bit.ensures c.bit_at.ensures c.loop-i.invariant.1,
+)
 
 pub returns : goal.returns
 unfolding meant.cofactor

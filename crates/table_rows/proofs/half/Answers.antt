@@ -3,7 +3,6 @@ use mathlib.Core.Path.{◌≡◌}
 use mathlib.Core.Bool.{true, false}
 use lib.Pow.{pow_mono}
 use native.Mathlib.Omega.{arith}
-use borrow.Author.Rules.{rules}
 use Rattle.table_rows.proofs.half.Goals as goal
 
 pub overflow_shr-result : goal.overflow_shr-result

@@ -1,5 +1,4 @@
 -- `table_rows::ignores` meets its contract: both cofactors are the same exactly when no pair differs.
-use borrow.Author.Rules.{rules}
 use Rattle.table_rows.specs.RowLaws.{ignores_is}
 use Rattle.table_rows.proofs.ignores.Goals as goal
 

@@ -3,7 +3,6 @@ use native.Mathlib.Nat.{mod-lt}
 use lib.Pow.{pow_pos, shr_le}
 use Prim.Native.Nat.{ℕ, ◌+◌, ◌*◌, ◌/◌, ◌^◌}
 use native.Mathlib.Omega.{arith}
-use borrow.Author.Rules.{rules}
 use Rattle.table_rows.specs.RowLaws.{room}
 use Rattle.table_rows.proofs.insert_bit.Goals as goal
 

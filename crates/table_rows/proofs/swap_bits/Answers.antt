@@ -4,7 +4,6 @@ use lib.Pow.{pow_pos, shr_le}
 use mathlib.Core.Path.{◌∙◌}
 use Prim.Native.Nat.{ℕ, ◌+◌, ◌*◌, ◌/◌, ◌^◌}
 use native.Mathlib.Omega.{arith}
-use borrow.Author.Rules.{rules}
 use Rattle.table_rows.specs.RowLaws.{room}
 use Rattle.table_rows.proofs.swap_bits.Goals as goal
 

@@ -3,7 +3,6 @@ use lib.Pow.{pow_mono}
 use mathlib.Core.Path.{◌≡◌, refl, ◌∙◌}
 use Prim.Native.Nat.{◌-◌, ◌^◌, ◌<◌, ◌≤◌}
 use native.Mathlib.Omega.{arith}
-use borrow.Author.Rules.{rules}
 use Rattle.meaning.specs.Rules.Words.{bit_at}
 use Rattle.meaning.specs.Rules.Tables as meant
 use Rattle.table_rows.specs.RowLaws.{row_room, row_added, swap_lt}
@@ -30,12 +29,11 @@ join-made-requires c =
     c.swap_bits.ensures c.bit_at.ensures c.loop-i.invariant.1 (omega arith)
 
 pub loop-i-preserved : goal.loop-i-preserved
-loop-i-preserved c =
-    (
-      omega arith,
-      c.join-made.ensures ∙ row_added c.args.p (meant.swap_bits c.args.pos) c.loop-i.i
-          c.swap_bits.ensures c.bit_at.ensures c.loop-i.invariant.1,
-    )
+loop-i-preserved c = (
+  omega arith,
+  c.join-made.ensures ∙ row_added c.args.p (meant.swap_bits c.args.pos) c.loop-i.i
+      c.swap_bits.ensures c.bit_at.ensures c.loop-i.invariant.1,
+)
 
 pub returns : goal.returns
 returns c =

@@ -1,12 +1,8 @@
 -- `table_rows::swapped` meets its contract: the loop has made the table of the rows below i.
-use lib.Pow.{pow_mono}
-use mathlib.Core.Path.{◌≡◌, refl, ◌∙◌}
-use Prim.Native.Nat.{◌-◌, ◌^◌, ◌<◌, ◌≤◌}
-use native.Mathlib.Omega.{arith}
-use borrow.Author.Rules.{rules}
+use mathlib.Core.Path.{◌≡◌}
+use Prim.Native.Nat.{◌-◌, ◌≤◌}
 use Rattle.meaning.specs.Rules.Words.{bit_at}
 use Rattle.meaning.specs.Rules.Tables as meant
-use Rattle.table_rows.specs.RowLaws.{row_room, row_added, swap_lt}
 use Rattle.table_rows.proofs.swapped.Given as goal
 
 abbrev pub invariant-loop-i : goal.invariant-loop-i

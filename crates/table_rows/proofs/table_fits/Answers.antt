@@ -1,7 +1,6 @@
 -- `table_rows::table_fits` meets its contract: at most six operands have at most 64 rows, so the width test decides.
 use mathlib.Core.Path.{◌∙◌}
 use borrow.Author.Tests.{lt-leb}
-use borrow.Author.Rules.{rules}
 use Rattle.table_rows.specs.RowLaws.{fits_rows}
 use Rattle.table_rows.proofs.table_fits.Goals as goal
 

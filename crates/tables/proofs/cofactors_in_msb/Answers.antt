@@ -1,7 +1,6 @@
 -- `tables::cofactors_in_msb` meets its contract: each way out is one case of the definition.
 use native.Mathlib.Omega.{arith}
 use borrow.Author.Tests.{le-leb, lt-leb}
-use borrow.Author.Rules.{rules}
 use Rattle.meaning.proofs.Laws.BoolLaws.{told_yes, told_no}
 use Rattle.meaning.specs.Rules.Tables as meant
 use Rattle.table_rows.specs.RowLaws.{fits_operands}

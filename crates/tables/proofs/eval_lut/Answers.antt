@@ -1,5 +1,4 @@
 -- `tables::eval_lut` meets its contract: it reads from the front.
-use borrow.Author.Rules.{rules}
 use Rattle.meaning.specs.Rules.Tables as meant
 use Rattle.tables.proofs.eval_lut.Goals as goal
 

@@ -1,5 +1,4 @@
 -- `tables::eval_lut_bv` meets its contract: it reads from the back.
-use borrow.Author.Rules.{rules}
 use Rattle.meaning.specs.Rules.Tables as meant
 use Rattle.tables.proofs.eval_lut_bv.Goals as goal
 

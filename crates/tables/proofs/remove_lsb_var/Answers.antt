@@ -1,7 +1,6 @@
 -- `tables::remove_lsb_var` meets its contract: each way out is one case of the definition.
 use native.Mathlib.Omega.{arith}
 use borrow.Author.Tests.{lt-ltb, le-ltb}
-use borrow.Author.Rules.{rules}
 use Rattle.meaning.proofs.Laws.BoolLaws.{told_yes, told_no}
 use Rattle.meaning.specs.Rules.Tables as meant
 use Rattle.table_rows.specs.RowLaws.{fits_operands}
@@ -32,12 +31,11 @@ returns-then-not-ignores c =
     )
 
 pub cofactor-requires : goal.cofactor-requires
-cofactor-requires c =
-    (
-      omega (arith, fits_operands c.args.p c.args.k (told_yes c.table_fits.ensures c.if-not-table_fits.false-raw)),
-      omega arith,
-      omega arith,
-    )
+cofactor-requires c = (
+  omega (arith, fits_operands c.args.p c.args.k (told_yes c.table_fits.ensures c.if-not-table_fits.false-raw)),
+  omega arith,
+  omega arith,
+)
 
 pub returns : goal.returns
 unfolding meant.remove_lsb_var

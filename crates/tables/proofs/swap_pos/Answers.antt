@@ -2,7 +2,6 @@
 use Prim.Native.Nat.{◌+◌}
 use native.Mathlib.Omega.{arith}
 use borrow.Author.Tests.{lt-ltb, le-ltb}
-use borrow.Author.Rules.{rules}
 use Rattle.meaning.proofs.Laws.BoolLaws.{told_yes, told_no}
 use Rattle.meaning.specs.Rules.Tables as meant
 use Rattle.table_rows.specs.RowLaws.{fits_operands}
@@ -28,11 +27,10 @@ returns-then-pos-k-2 c =
     )
 
 pub swapped-requires : goal.swapped-requires
-swapped-requires c =
-    (
-      fits_operands c.args.p c.args.k (told_yes c.table_fits.ensures c.if-not-table_fits.false-raw),
-      omega (arith, c.if-pos-k-2.false),
-    )
+swapped-requires c = (
+  fits_operands c.args.p c.args.k (told_yes c.table_fits.ensures c.if-not-table_fits.false-raw),
+  omega (arith, c.if-pos-k-2.false),
+)
 
 pub returns : goal.returns
 unfolding meant.swap_pos

@@ -2,7 +2,6 @@
 use mathlib.Core.Path.{◌≡◌, sym, ◌∙◌}
 use mathlib.Core.Bool.{true, false}
 use Rattle.meaning.specs.Rules.Words.{word_fits}
-use borrow.Author.Rules.{rules}
 use Rattle.meaning.specs.Rules.Tables as meant
 use Rattle.tables.proofs.to_bitvec.Goals as goal
 

@@ -8,16 +8,10 @@ use Rattle.meaning.specs.declared.Answer.{Answer}
 use mathlib.Core.List.{List}
 use mathlib.Core.Path.{◌≡◌, ap, ap₂, ◌∙◌}
 use Prim.Native.Nat.{ℕ}
-use borrow.Author.Rules.{rules}
-use Rattle.trials.proofs.answers_at.Reads as reads
-use Rattle.trials.proofs.answers_at.Lts as lts
-use Rattle.inputs.proofs.driving.drive.Reads as drive-reads
-use Rattle.nodes.proofs.node_count.Reads as node-count-reads
-use Rattle.roots.proofs.root_under.Reads as root-under-reads
 use Rattle.trials.proofs.answers_at.Goals as goal
 
 pub drive-requires : goal.drive-requires
-drive-requires c = 
+drive-requires c =
     record {
       variables_len_bound = c.requires.drivable.few;
       all_below = c.requires.drivable.within;

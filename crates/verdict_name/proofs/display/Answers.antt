@@ -5,10 +5,8 @@ use Rattle.verdict_name.proofs.display.Goals as goal
 
 -- TODO slice-aggregate-write-name : tie.Need-slice-aggregate-write-name
 slice-aggregate-write-name c = search rules
-
 -- TODO slice-aggregate-write-name-2 : tie.Need-slice-aggregate-write-name-2
 slice-aggregate-write-name-2 c = search rules
-
 -- TODO slice-aggregate-write-name-3 : tie.Need-slice-aggregate-write-name-3
 slice-aggregate-write-name-3 c = search rules
 

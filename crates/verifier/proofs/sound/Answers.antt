@@ -6,7 +6,6 @@ use mathlib.Core.Logic.{◌≢◌}
 use mathlib.Core.List.{List}
 use Prim.Native.Nat.{ℕ}
 use lib.ListN.{length}
-use borrow.Author.Rules.{rules}
 use native.Mathlib.Omega.{arith}
 use Rattle.meaning.specs.Rules.Trees.{node_count}
 use Rattle.meaning.specs.declared.Refusal.{Refusal}

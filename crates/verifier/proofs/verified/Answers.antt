@@ -2,7 +2,6 @@ use mathlib.Core.Path.{◌≡◌, sym, ap, subst, ◌∙◌}
 use mathlib.Core.Logic.{◌≢◌}
 use mathlib.Core.List.{List}
 use Prim.Native.Nat.{ℕ}
-use borrow.Author.Rules.{rules}
 use native.Mathlib.Omega.{arith}
 use Rattle.meaning.proofs.Laws.NumberLaws.{then_go, then_stop}
 use Rattle.meaning.specs.Rules.Refusals.{◌then◌}
@@ -16,7 +15,7 @@ use Rattle.search.specs.Search.{Marked}
 use Rattle.verifier.proofs.verified.Goals as goal
 
 pub lowest_fault-laid-requires : goal.lowest_fault-laid-requires
-lowest_fault-laid-requires c = 
+lowest_fault-laid-requires c =
     record {
       nodes_bound = c.requires.nodes_bound;
       ready = tt;

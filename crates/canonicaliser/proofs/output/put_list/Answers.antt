@@ -19,7 +19,6 @@ use mathlib.Core.Bool.{Bool}
 use mathlib.Core.List.{List}
 use mathlib.Core.Path.{◌≡◌, sym, ap, ◌∙◌}
 use native.Mathlib.Omega.{arith}
-use borrow.Author.Rules.{rules}
 use Rattle.canonicaliser.proofs.output.put_list.Goals as goal
 
 pub pool_length-entries-requires : goal.pool_length-entries-requires

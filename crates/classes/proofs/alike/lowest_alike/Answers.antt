@@ -3,10 +3,9 @@ use Rattle.classes.specs.Classes.{has_tree}
 use Rattle.classes.specs.Ready.{filled_under}
 use Rattle.meaning.proofs.Laws.SearchLaws.{lowest_only}
 use Rattle.meaning.specs.Rules.Trees.{tree_of}
-use borrow.Author.Rules.{rules}
 use borrow.Author.Count.{below_more}
 use native.Mathlib.Omega.{arith}
-use Prim.Native.Nat.{ℕ, ◌≤◌, ◌<◌, ◌-◌}
+use Prim.Native.Nat.{ℕ, ◌-◌}
 use mathlib.Core.Bool.{Bool, true, false}
 use mathlib.Core.Path.{◌≡◌, sym, ◌∙◌}
 use Rattle.classes.proofs.alike.lowest_alike.Goals as goal

@@ -1,14 +1,9 @@
 -- `lowest_alike` meets its contract: no node that the loop has passed has the tree, and the first that has it is the lowest.
 use Rattle.classes.specs.Classes.{has_tree}
-use Rattle.classes.specs.Ready.{filled_under}
-use Rattle.meaning.proofs.Laws.SearchLaws.{lowest_only}
 use Rattle.meaning.specs.Rules.Trees.{tree_of}
-use borrow.Author.Rules.{rules}
-use borrow.Author.Count.{below_more}
-use native.Mathlib.Omega.{arith}
 use Prim.Native.Nat.{ℕ, ◌≤◌, ◌<◌, ◌-◌}
-use mathlib.Core.Bool.{Bool, true, false}
-use mathlib.Core.Path.{◌≡◌, sym, ◌∙◌}
+use mathlib.Core.Bool.{false}
+use mathlib.Core.Path.{◌≡◌}
 use Rattle.classes.proofs.alike.lowest_alike.Given as goal
 
 abbrev pub invariant-loop-i : goal.invariant-loop-i

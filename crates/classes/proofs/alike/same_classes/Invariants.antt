@@ -1,14 +1,8 @@
 -- `same_classes` meets its contract: of the pairs of children before the loop each has one class (`same_classes` of the rest).
-use Rattle.classes.specs.Alike.{same_classes, classes_count, classes_more, classes_stop, classes_done}
-use Rattle.columns.specs.Columns.{cell, class_column}
-use borrow.Author.Tests.{eq-eqb, ne_eqb}
-use lib.Dec.{eqb}
-use lib.ListN.{length, get_or, drop}
-use borrow.Author.Rules.{rules}
-use native.Mathlib.Omega.{arith}
-use Prim.Native.Nat.{ℕ, ◌≤◌, ◌<◌, ◌-◌, ◌+◌}
-use mathlib.Core.List.{List}
-use mathlib.Core.Path.{◌≡◌, refl, sym, ap, ap₂, ◌∙◌}
+use Rattle.classes.specs.Alike.{same_classes}
+use lib.ListN.{length, drop}
+use Prim.Native.Nat.{◌≤◌, ◌-◌}
+use mathlib.Core.Path.{◌≡◌}
 use Rattle.classes.proofs.alike.same_classes.Given as goal
 
 abbrev pub invariant-loop-at : goal.invariant-loop-at

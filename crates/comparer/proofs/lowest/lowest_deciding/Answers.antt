@@ -1,5 +1,4 @@
 -- `lowest_deciding` meets its contract: no assignment below the index decides, so the first that does is the lowest.
-use borrow.Author.Rules.{rules}
 use mathlib.Core.Path.{◌≡◌, refl, sym, ap, ap₂, subst, ◌∙◌}
 use mathlib.Core.List.{List}
 use mathlib.Core.Bool.{true, false, not}
@@ -12,8 +11,8 @@ use Rattle.meaning.specs.Rules.Assignments.{inputs, drive}
 use Rattle.meaning.specs.Rules.Answers.{Assignment, answer}
 use Rattle.meaning.specs.Rules.Comparison.{agree, decides, assignments, decided_at}
 use Rattle.meaning.proofs.Laws.BoolLaws.{not_is_true, not_is_false}
-use Rattle.meaning.proofs.Laws.SearchLaws.{NoneBelow, none_yet, none_next}
-use Rattle.inputs.specs.Driving.{OthersUndriven, still_undriven}
+use Rattle.meaning.proofs.Laws.SearchLaws.{none_yet, none_next}
+use Rattle.inputs.specs.Driving.{still_undriven}
 use Rattle.trials.specs.declared.Roots.{Roots}
 use Rattle.trials.specs.Trial.{BothPrepared, tried_work, still_both}
 use Rattle.comparer.specs.Searched.{searched_through, searched_to, first_answer, second_answer}

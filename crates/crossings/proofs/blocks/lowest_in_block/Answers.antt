@@ -1,9 +1,7 @@
 -- `lowest_in_block` meets its contract: up to the loop's run bits, nothing of the block below the lowest differs from the base.
 use Rattle.crossings.specs.Lowest.{answer_at, differs, NoneInBlock, lowered_none, block_start, block_next, block_rest, block_found}
 use Rattle.subsets.specs.Next.{IsNext}
-use Rattle.subsets.specs.Among.{Among, none_among, among_le}
-use Rattle.inputs.specs.Driving.{Drivable}
-use Rattle.rows.specs.Rows.{Prepared}
+use Rattle.subsets.specs.Among.{none_among, among_le}
 use Rattle.meaning.specs.Rules.Comparison.{same_answer}
 use Rattle.meaning.specs.Rules.Trees.{Tree, root_of}
 use Rattle.meaning.specs.declared.Answer.{Answer}
@@ -12,16 +10,11 @@ use lib.ListN.{length}
 use native.Mathlib.Omega.{arith}
 use mathlib.Core.Bool.{not}
 use mathlib.Core.Path.{◌≡◌, refl, sym, ap, subst, ◌∙◌}
-use Prim.Native.Nat.{ℕ, ◌-◌, ◌≤◌, ◌<◌}
-use Rattle.crossings.proofs.blocks.lowest_in_block.Reads as reads
-use Rattle.crossings.proofs.blocks.lowest_in_block.Lts as lts
-use Rattle.crossings.proofs.trial.answer_under.Reads as answer-under-reads
-use Rattle.crossings.proofs.trial.differs_at.Reads as differs-at-reads
-use Rattle.subsets.proofs.next_among.Reads as next-among-reads
+use Prim.Native.Nat.{ℕ, ◌-◌, ◌<◌}
 use Rattle.crossings.proofs.blocks.lowest_in_block.Goals as goal
 
 pub answer_under-cleared-requires : goal.answer_under-cleared-requires
-answer_under-cleared-requires c = 
+answer_under-cleared-requires c =
     record {
       variables_value = c.requires.variables_value;
       prepared = c.requires.prepared;
@@ -38,7 +31,7 @@ loop-run-init c =
     (omega arith, none_among marked, refl, refl, c.answer_under-cleared.ensures.prepared_2, c.answer_under-cleared.ensures.drivable_2, block_start t n marked x best)
 
 pub next_among-run-requires : goal.next_among-run-requires
-next_among-run-requires c = 
+next_among-run-requires c =
     record {
       among = c.loop-run.invariant.1;
       x_lt_mask = c.loop-run-test.true;
@@ -69,7 +62,7 @@ returns-then-lowest-index c =
     }
 
 pub differs_at-requires : goal.differs_at-requires
-differs_at-requires c = 
+differs_at-requires c =
     record {
       variables_value = c.requires.variables_value;
       prepared = c.loop-run.invariant.4;

@@ -1,23 +1,12 @@
 -- `lowest_in_block` meets its contract: up to the loop's run bits, nothing of the block below the lowest differs from the base.
-use Rattle.crossings.specs.Lowest.{answer_at, differs, NoneInBlock, lowered_none, block_start, block_next, block_rest, block_found}
-use Rattle.subsets.specs.Next.{IsNext}
-use Rattle.subsets.specs.Among.{Among, none_among, among_le}
+use Rattle.crossings.specs.Lowest.{NoneInBlock}
+use Rattle.subsets.specs.Among.{Among}
 use Rattle.inputs.specs.Driving.{Drivable}
 use Rattle.rows.specs.Rows.{Prepared}
-use Rattle.meaning.specs.Rules.Comparison.{same_answer}
-use Rattle.meaning.specs.Rules.Trees.{Tree, root_of}
-use Rattle.meaning.specs.declared.Answer.{Answer}
-use lib.Bits.{bit_or}
+use Rattle.meaning.specs.Rules.Trees.{root_of}
 use lib.ListN.{length}
-use native.Mathlib.Omega.{arith}
-use mathlib.Core.Bool.{not}
-use mathlib.Core.Path.{◌≡◌, refl, sym, ap, subst, ◌∙◌}
-use Prim.Native.Nat.{ℕ, ◌-◌, ◌≤◌, ◌<◌}
-use Rattle.crossings.proofs.blocks.lowest_in_block.Reads as reads
-use Rattle.crossings.proofs.blocks.lowest_in_block.Lts as lts
-use Rattle.crossings.proofs.trial.answer_under.Reads as answer-under-reads
-use Rattle.crossings.proofs.trial.differs_at.Reads as differs-at-reads
-use Rattle.subsets.proofs.next_among.Reads as next-among-reads
+use mathlib.Core.Path.{◌≡◌}
+use Prim.Native.Nat.{◌-◌, ◌≤◌}
 use Rattle.crossings.proofs.blocks.lowest_in_block.Given as goal
 
 abbrev pub invariant-loop-run : goal.invariant-loop-run

@@ -1,29 +1,23 @@
 -- `lowest_of_blocks` meets its contract: up to the loop's base, no block has anything below the lowest that differs.
 use Rattle.crossings.specs.Lowest.{LoweredTo, NoneTo, first_block, next_block, next_lowered, blocks_rest}
 use Rattle.subsets.specs.Next.{IsNext}
-use Rattle.subsets.specs.Among.{Among, none_among, among_le}
-use Rattle.inputs.specs.Driving.{Drivable}
-use Rattle.rows.specs.Rows.{Prepared}
+use Rattle.subsets.specs.Among.{none_among, among_le}
 use Rattle.meaning.specs.Rules.Trees.{Tree, root_of}
 use lib.ListN.{length}
 use native.Mathlib.Omega.{arith}
 use mathlib.Core.Path.{◌≡◌, refl, subst, ◌∙◌}
-use Prim.Native.Nat.{ℕ, ◌-◌, ◌≤◌}
-use Rattle.crossings.proofs.blocks.lowest_of_blocks.Reads as reads
-use Rattle.crossings.proofs.blocks.lowest_of_blocks.Lts as lts
-use Rattle.crossings.proofs.blocks.lowest_in_block.Reads as lowest-in-block-reads
-use Rattle.subsets.proofs.next_among.Reads as next-among-reads
+use Prim.Native.Nat.{ℕ, ◌-◌}
 use Rattle.crossings.proofs.blocks.lowest_of_blocks.Goals as goal
 
 pub next_among-first-requires : goal.next_among-first-requires
-next_among-first-requires c = 
+next_among-first-requires c =
     record {
       among = none_among c.args.marked;
       x_lt_mask = c.requires.marked_nonzero.0;
     }
 
 pub lowest_in_block-lowest-requires : goal.lowest_in_block-lowest-requires
-lowest_in_block-lowest-requires c = 
+lowest_in_block-lowest-requires c =
     record {
       apart_from = c.requires.marked_nonzero.1 0 (none_among c.args.free);
       variables_value = c.requires.variables_value;
@@ -51,7 +45,7 @@ loop-base-init c =
     )
 
 pub next_among-base-requires : goal.next_among-base-requires
-next_among-base-requires c = 
+next_among-base-requires c =
     record {
       among = c.loop-base.invariant.1;
       x_lt_mask = c.loop-base-test.true;
@@ -80,7 +74,7 @@ returns-then-lowest-base c =
     }
 
 pub lowest_in_block-lowest-requires-in-loop-base : goal.lowest_in_block-lowest-requires-in-loop-base
-lowest_in_block-lowest-requires-in-loop-base c = 
+lowest_in_block-lowest-requires-in-loop-base c =
     record {
       apart_from = c.requires.marked_nonzero.1 c.next_among-base.result c.next_among-base.ensures.among;
       variables_value = c.requires.variables_value;

@@ -1,18 +1,12 @@
 -- `lowest_of_blocks` meets its contract: up to the loop's base, no block has anything below the lowest that differs.
-use Rattle.crossings.specs.Lowest.{LoweredTo, NoneTo, first_block, next_block, next_lowered, blocks_rest}
-use Rattle.subsets.specs.Next.{IsNext}
-use Rattle.subsets.specs.Among.{Among, none_among, among_le}
+use Rattle.crossings.specs.Lowest.{LoweredTo, NoneTo}
+use Rattle.subsets.specs.Among.{Among}
 use Rattle.inputs.specs.Driving.{Drivable}
 use Rattle.rows.specs.Rows.{Prepared}
-use Rattle.meaning.specs.Rules.Trees.{Tree, root_of}
+use Rattle.meaning.specs.Rules.Trees.{root_of}
 use lib.ListN.{length}
-use native.Mathlib.Omega.{arith}
-use mathlib.Core.Path.{◌≡◌, refl, subst, ◌∙◌}
-use Prim.Native.Nat.{ℕ, ◌-◌, ◌≤◌}
-use Rattle.crossings.proofs.blocks.lowest_of_blocks.Reads as reads
-use Rattle.crossings.proofs.blocks.lowest_of_blocks.Lts as lts
-use Rattle.crossings.proofs.blocks.lowest_in_block.Reads as lowest-in-block-reads
-use Rattle.subsets.proofs.next_among.Reads as next-among-reads
+use mathlib.Core.Path.{◌≡◌}
+use Prim.Native.Nat.{◌-◌, ◌≤◌}
 use Rattle.crossings.proofs.blocks.lowest_of_blocks.Given as goal
 
 abbrev pub invariant-loop-base : goal.invariant-loop-base

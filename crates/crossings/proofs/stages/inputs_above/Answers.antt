@@ -1,10 +1,7 @@
 -- `inputs_above` meets its contract: no more variables than places looked at, and no more than a word has.
 use Rattle.meaning.proofs.Laws.WordLaws.{bit_lt}
 use native.Mathlib.Omega.{arith}
-use Prim.Native.Nat.{◌-◌, ◌≤◌}
-use Rattle.crossings.proofs.stages.inputs_above.Reads as reads
-use Rattle.crossings.proofs.stages.inputs_above.Lts as lts
-use Rattle.bits.proofs.bit_at.Reads as bit-at-reads
+use Prim.Native.Nat.{◌-◌}
 use Rattle.crossings.proofs.stages.inputs_above.Goals as goal
 
 pub loop-v-init : goal.loop-v-init

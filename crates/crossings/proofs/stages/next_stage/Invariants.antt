@@ -1,10 +1,5 @@
 -- `next_stage` meets its contract: it gets on, and not past n.
-use native.Mathlib.Omega.{arith}
 use Prim.Native.Nat.{◌-◌, ◌<◌}
-use borrow.Author.Rules.{rules}
-use Rattle.crossings.proofs.stages.next_stage.Reads as reads
-use Rattle.crossings.proofs.stages.next_stage.Lts as lts
-use Rattle.crossings.proofs.stages.stages_above.Reads as stages-above-reads
 use Rattle.crossings.proofs.stages.next_stage.Given as goal
 
 abbrev pub invariant-loop-next : goal.invariant-loop-next

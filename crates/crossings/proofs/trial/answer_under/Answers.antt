@@ -9,11 +9,6 @@ use lib.ListN.{length}
 use mathlib.Core.List.{List}
 use mathlib.Core.Path.{◌≡◌, sym, ap, subst, ◌∙◌}
 use Prim.Native.Nat.{ℕ}
-use borrow.Author.Rules.{rules}
-use Rattle.crossings.proofs.trial.answer_under.Reads as reads
-use Rattle.crossings.proofs.trial.answer_under.Lts as lts
-use Rattle.inputs.proofs.driving.drive.Reads as drive-reads
-use Rattle.roots.proofs.root_under.Reads as root-under-reads
 use Rattle.crossings.proofs.trial.answer_under.Goals as goal
 
 pub drive-requires : goal.drive-requires

@@ -3,15 +3,10 @@ use Rattle.meaning.specs.Rules.Comparison.{same_answer}
 use Rattle.meaning.specs.declared.Answer.{Answer}
 use mathlib.Core.Bool.{not}
 use mathlib.Core.Path.{ap, ◌∙◌}
-use borrow.Author.Rules.{rules}
-use Rattle.crossings.proofs.trial.differs_at.Reads as reads
-use Rattle.crossings.proofs.trial.differs_at.Lts as lts
-use Rattle.crossings.proofs.trial.answer_under.Reads as answer-under-reads
-use Rattle.separations.proofs.same_answer.Reads as same-answer-reads
 use Rattle.crossings.proofs.trial.differs_at.Goals as goal
 
 pub answer_under-answer-requires : goal.answer_under-answer-requires
-answer_under-answer-requires c = 
+answer_under-answer-requires c =
     record {
       variables_value = c.requires.variables_value;
       prepared = c.requires.prepared;
@@ -19,7 +14,7 @@ answer_under-answer-requires c =
     }
 
 pub returns : goal.returns
-returns c = 
+returns c =
     record {
       value = ap not (c.same_answer.ensures ∙ ap (λ (x : Answer). same_answer x c.args.cleared) c.answer_under-answer.ensures.value);
       prepared_2 = c.answer_under-answer.ensures.prepared_2;

@@ -1,16 +1,10 @@
 -- `all_known` meets its contract: the loop has passed known bytes only, so what is left decides.
-use Rattle.lists.specs.Scan.{every_stop, every_more, every_done}
-use Rattle.meaning.proofs.Laws.TestLaws.{is_le, is_above}
 use Rattle.meaning.specs.Rules.Refusals.{every}
 use Rattle.meaning.specs.Rules.Answers.{undriven_byte}
-use native.Mathlib.Omega.{arith}
-use mathlib.Core.Path.{◌≡◌, refl, sym, ◌∙◌}
-use mathlib.Core.List.{List}
-use mathlib.Core.Bool.{false, true}
-use lib.ListN.{length, drop, get_or}
+use mathlib.Core.Path.{◌≡◌}
+use lib.ListN.{length, drop}
 use lib.Dec.{leb}
-use Prim.Native.Nat.{ℕ, ◌≤◌, ◌-◌}
-use borrow.Author.Rules.{rules}
+use Prim.Native.Nat.{◌≤◌, ◌-◌}
 use Rattle.evaluator.proofs.assignment.all_known.Given as goal
 
 abbrev pub invariant-loop-at : goal.invariant-loop-at

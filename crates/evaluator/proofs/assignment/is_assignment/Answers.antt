@@ -9,7 +9,6 @@ use mathlib.Core.Bool.{true, false}
 use lib.ListN.{length}
 use lib.Dec.{leb}
 use borrow.Author.Tests.{le-leb, lt-leb}
-use borrow.Author.Rules.{rules}
 use Rattle.evaluator.proofs.assignment.is_assignment.Goals as goal
 
 pub returns-then-bytes-le-VARIABLE_COUNT : goal.returns-then-bytes-le-VARIABLE_COUNT

@@ -3,9 +3,8 @@ use Rattle.evaluator.specs.Output.{row_pairs, rows_next, rows_written}
 use native.Mathlib.Omega.{arith}
 use mathlib.Core.Path.{◌≡◌, refl, ap, ◌∙◌}
 use mathlib.Core.List.{◌++◌}
-use lib.ListN.{length, drop, length-set}
-use Prim.Native.Nat.{ℕ, ◌+◌, ◌*◌, ◌≤◌, ◌-◌}
-use borrow.Author.Rules.{rules}
+use lib.ListN.{drop, length-set}
+use Prim.Native.Nat.{ℕ, ◌*◌, ◌-◌}
 use Rattle.evaluator.proofs.output.write_pairs.Goals as goal
 
 pub loop-i-init : goal.loop-i-init

@@ -1,11 +1,9 @@
 -- `write_pairs` meets its contract: the loop has written the pairs below it, and left what is behind them.
-use Rattle.evaluator.specs.Output.{row_pairs, rows_next, rows_written}
-use native.Mathlib.Omega.{arith}
-use mathlib.Core.Path.{◌≡◌, refl, ap, ◌∙◌}
+use Rattle.evaluator.specs.Output.{row_pairs}
+use mathlib.Core.Path.{◌≡◌}
 use mathlib.Core.List.{◌++◌}
-use lib.ListN.{length, drop, length-set}
-use Prim.Native.Nat.{ℕ, ◌+◌, ◌*◌, ◌≤◌, ◌-◌}
-use borrow.Author.Rules.{rules}
+use lib.ListN.{length, drop}
+use Prim.Native.Nat.{◌*◌, ◌≤◌, ◌-◌}
 use Rattle.evaluator.proofs.output.write_pairs.Given as goal
 
 abbrev pub invariant-loop-i : goal.invariant-loop-i

@@ -1,11 +1,10 @@
 -- `dropping::drop_at` meets its contract: those behind the operand are moved down (`Moved`).
 use mathlib.Core.Path.{refl, ap, ◌≡◌, sym, subst}
-use Prim.Native.Nat.{◌+◌, ℕ, suc, ◌≤◌, ◌-◌}
+use Prim.Native.Nat.{◌+◌, ℕ, suc, ◌-◌}
 use lib.ListN.{set, get_or}
 use Rattle.folding.specs.Moved.{Moved, moved_none, moved_next, moved_all}
 use mathlib.Core.List.{List}
 use native.Mathlib.Omega.{arith}
-use borrow.Author.Rules.{rules}
 use Rattle.folding.proofs.dropping.drop_at.Goals as goal
 
 pub loop-j-init : goal.loop-j-init

@@ -3,9 +3,8 @@ use mathlib.Core.Path.{refl, subst, ap₂, ◌≡◌, sym, ◌∙◌}
 use Rattle.folding.specs.Folded.{ignored_at}
 use Rattle.meaning.specs.Rules.Tables.{ignores}
 use Rattle.meaning.proofs.Laws.SearchLaws.{NoneBelow, none_yet, none_next, lowest_here, lowest_none}
-use Prim.Native.Nat.{ℕ, ◌≤◌, ◌-◌}
+use Prim.Native.Nat.{ℕ, ◌-◌}
 use native.Mathlib.Omega.{arith}
-use borrow.Author.Rules.{rules}
 use Rattle.folding.proofs.dropping.first_ignored.Goals as goal
 
 pub loop-at-init : goal.loop-at-init

@@ -1,11 +1,8 @@
 -- `dropping::first_ignored` meets its contract: none below the loop is ignored.
-use mathlib.Core.Path.{refl, subst, ap₂, ◌≡◌, sym, ◌∙◌}
+use mathlib.Core.Path.{◌≡◌}
 use Rattle.folding.specs.Folded.{ignored_at}
-use Rattle.meaning.specs.Rules.Tables.{ignores}
-use Rattle.meaning.proofs.Laws.SearchLaws.{NoneBelow, none_yet, none_next, lowest_here, lowest_none}
-use Prim.Native.Nat.{ℕ, ◌≤◌, ◌-◌}
-use native.Mathlib.Omega.{arith}
-use borrow.Author.Rules.{rules}
+use Rattle.meaning.proofs.Laws.SearchLaws.{NoneBelow}
+use Prim.Native.Nat.{◌≤◌, ◌-◌}
 use Rattle.folding.proofs.dropping.first_ignored.Given as goal
 
 abbrev pub invariant-loop-at : goal.invariant-loop-at

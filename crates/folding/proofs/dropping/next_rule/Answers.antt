@@ -12,7 +12,6 @@ use Rattle.meaning.proofs.Laws.SearchLaws.{lowest_is}
 use Rattle.folding.specs.declared.dropping.Next.TheVariants.{Drop}
 use Rattle.folding.specs.Folded.{constant_at}
 use Rattle.folding.specs.FoldedLaws.{next_constant, next_ignored, next_stay}
-use borrow.Author.Rules.{rules}
 use Rattle.folding.proofs.dropping.next_rule.Goals as goal
 
 pub datum_in-bit-requires : goal.datum_in-bit-requires

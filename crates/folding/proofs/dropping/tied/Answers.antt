@@ -2,7 +2,6 @@
 use Rattle.meaning.specs.Rules.Tables.{cofactor}
 use Prim.Native.Nat.{ℕ, ◌-◌}
 use mathlib.Core.Path.{◌∙◌, ap}
-use borrow.Author.Rules.{rules}
 use Rattle.folding.proofs.dropping.tied.Goals as goal
 
 pub returns : goal.returns

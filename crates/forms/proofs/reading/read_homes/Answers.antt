@@ -4,9 +4,8 @@ use Rattle.columns.specs.Columns.{cell, home_column}
 use lib.ListN.{length, length-set}
 use mathlib.Core.List.{List}
 use mathlib.Core.Path.{◌≡◌, ap, subst, ◌∙◌}
-use Prim.Native.Nat.{ℕ, ◌≤◌, ◌-◌}
+use Prim.Native.Nat.{ℕ, ◌-◌}
 use native.Mathlib.Omega.{arith}
-use borrow.Author.Rules.{rules}
 use Rattle.forms.proofs.reading.read_homes.Goals as goal
 
 pub home_of-requires : goal.home_of-requires

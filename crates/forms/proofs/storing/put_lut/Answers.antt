@@ -1,6 +1,5 @@
 -- `storing::put_lut` meets its contract: the operands leave the rest of the row.
 use Rattle.forms.specs.Stores.{lut_row}
-use borrow.Author.Rules.{rules}
 use Rattle.forms.proofs.storing.put_lut.Goals as goal
 
 pub returns : goal.returns

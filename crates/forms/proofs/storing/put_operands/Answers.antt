@@ -3,9 +3,8 @@ use Rattle.forms.specs.Stores.{Placed, placed_next}
 use lib.ListN.{length}
 use mathlib.Core.List.{List}
 use mathlib.Core.Path.{◌≡◌, sym, subst}
-use Prim.Native.Nat.{ℕ, ◌≤◌, ◌-◌, ◌+◌}
+use Prim.Native.Nat.{ℕ, ◌-◌, ◌+◌}
 use native.Mathlib.Omega.{arith}
-use borrow.Author.Rules.{rules}
 use Rattle.forms.proofs.storing.put_operands.Goals as goal
 
 pub loop-j-preserved : goal.loop-j-preserved

@@ -1,11 +1,8 @@
 -- `storing::put_operands` meets its contract: the operands below the loop stand in the row (`Placed`).
-use Rattle.forms.specs.Stores.{Placed, placed_next}
+use Rattle.forms.specs.Stores.{Placed}
 use lib.ListN.{length}
-use mathlib.Core.List.{List}
-use mathlib.Core.Path.{◌≡◌, sym, subst}
-use Prim.Native.Nat.{ℕ, ◌≤◌, ◌-◌, ◌+◌}
-use native.Mathlib.Omega.{arith}
-use borrow.Author.Rules.{rules}
+use mathlib.Core.Path.{◌≡◌}
+use Prim.Native.Nat.{◌≤◌, ◌-◌}
 use Rattle.forms.proofs.storing.put_operands.Given as goal
 
 abbrev pub invariant-loop-j : goal.invariant-loop-j

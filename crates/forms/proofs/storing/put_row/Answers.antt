@@ -5,7 +5,6 @@ use lib.ListN.{set}
 use mathlib.Core.List.{List}
 use mathlib.Core.Path.{◌≡◌, sym, ap, subst, ◌∙◌}
 use Prim.Native.Nat.{ℕ}
-use borrow.Author.Rules.{rules}
 use Rattle.forms.proofs.storing.put_row.Goals as goal
 
 pub returns : goal.returns

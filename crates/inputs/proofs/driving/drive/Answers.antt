@@ -1,9 +1,8 @@
 -- `drive` meets its contract: the variables from the j-th on are driven, and the others as they were.
 use Rattle.inputs.specs.Driving.{DrivenFrom, drive_none, drive_next, drive_done}
 use lib.ListN.{length, length-set, get_or}
-use borrow.Author.Rules.{rules}
 use native.Mathlib.Omega.{arith}
-use Prim.Native.Nat.{ℕ, suc, ◌≤◌, ◌<◌, ◌-◌}
+use Prim.Native.Nat.{ℕ, suc, ◌<◌, ◌-◌}
 use mathlib.Core.List.{List}
 use mathlib.Core.Path.{◌≡◌, refl, subst}
 use Rattle.inputs.proofs.driving.drive.Goals as goal

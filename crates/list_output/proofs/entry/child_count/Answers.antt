@@ -5,7 +5,6 @@ use mathlib.Core.Path.{ap₂, sym}
 use borrow.Author.Tests.{eq-eqb, ne_eqb}
 use Prim.Native.Nat.{ℕ, ◌+◌, ◌-◌, ◌/◌, ◌%◌}
 use native.Mathlib.Omega.{arith}
-use borrow.Author.Rules.{rules}
 use Rattle.list_output.proofs.entry.child_count.Goals as goal
 
 pub returns-then-entry-eq1 : goal.returns-then-entry-eq1

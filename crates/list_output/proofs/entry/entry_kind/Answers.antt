@@ -3,7 +3,6 @@ use Rattle.list_output.specs.Words.{entry_kind}
 use borrow.Author.Tests.{eq-eqb, ne_eqb}
 use Prim.Native.Nat.{◌-◌, ◌%◌}
 use mathlib.Core.Path.{sym}
-use borrow.Author.Rules.{rules}
 use Rattle.list_output.proofs.entry.entry_kind.Goals as goal
 
 pub returns-then-entry-eq1 : goal.returns-then-entry-eq1

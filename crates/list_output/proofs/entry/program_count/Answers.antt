@@ -5,7 +5,6 @@ use Rattle.meaning.specs.Rules.Kinds.{lut_word}
 use borrow.Author.Tests.{eq-eqb, ne_eqb}
 use Prim.Native.Nat.{◌-◌}
 use mathlib.Core.Path.{sym, ◌∙◌}
-use borrow.Author.Rules.{rules}
 use Rattle.list_output.proofs.entry.program_count.Goals as goal
 
 pub returns-then-kind_in-eq-LUT : goal.returns-then-kind_in-eq-LUT

@@ -4,10 +4,9 @@ use Rattle.meaning.specs.Rules.Limits.{words_per_node}
 use lib.Seq.{sets}
 use lib.ListN.{length, length-set, set}
 use mathlib.Core.List.{List}
-use Prim.Native.Nat.{ℕ, ◌+◌, ◌-◌, ◌*◌, ◌≤◌}
+use Prim.Native.Nat.{ℕ, ◌+◌, ◌-◌, ◌*◌}
 use mathlib.Core.Path.{◌≡◌, refl, ap, ◌∙◌}
 use native.Mathlib.Omega.{arith}
-use borrow.Author.Rules.{rules}
 use Rattle.list_output.proofs.node.put_node.Goals as goal
 
 pub bounds-out-at-2 : goal.bounds-out-at-2

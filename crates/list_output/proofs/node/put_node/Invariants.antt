@@ -1,13 +1,10 @@
 -- `put_node` meets its contract: three stores, and a zero a turn behind them.
-use Rattle.list_output.specs.Stores.{zeros, node_stored, zero_stored}
+use Rattle.list_output.specs.Stores.{zeros}
 use Rattle.meaning.specs.Rules.Limits.{words_per_node}
 use lib.Seq.{sets}
-use lib.ListN.{length, length-set, set}
-use mathlib.Core.List.{List}
-use Prim.Native.Nat.{ℕ, ◌+◌, ◌-◌, ◌*◌, ◌≤◌}
-use mathlib.Core.Path.{◌≡◌, refl, ap, ◌∙◌}
-use native.Mathlib.Omega.{arith}
-use borrow.Author.Rules.{rules}
+use lib.ListN.{length}
+use Prim.Native.Nat.{◌+◌, ◌-◌, ◌≤◌}
+use mathlib.Core.Path.{◌≡◌}
 use Rattle.list_output.proofs.node.put_node.Given as goal
 
 abbrev pub invariant-loop-w : goal.invariant-loop-w

@@ -8,7 +8,7 @@ use native.Mathlib.Omega.{arith}
 use Rattle.list_output.proofs.part.kid_number.Goals as goal
 
 pub kid-requires : goal.kid-requires
-kid-requires c = 
+kid-requires c =
     record {
       formed = c.requires.numbers.formed;
       home = c.requires.numbers.home;

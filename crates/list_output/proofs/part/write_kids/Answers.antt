@@ -4,11 +4,10 @@ use Rattle.list_output.specs.Words.{kid_number, kids_part}
 use Rattle.form_rows.specs.From.{from}
 use Rattle.columns.specs.Columns.{cell, count_column}
 use lib.Seq.{sets}
-use lib.ListN.{length, length-set}
-use Prim.Native.Nat.{ℕ, ◌-◌, ◌≤◌}
+use lib.ListN.{length-set}
+use Prim.Native.Nat.{ℕ, ◌-◌}
 use mathlib.Core.Path.{◌≡◌, refl, ap, ◌∙◌}
 use native.Mathlib.Omega.{arith}
-use borrow.Author.Rules.{rules}
 use Rattle.list_output.proofs.part.write_kids.Goals as goal
 
 pub kid_count-count-requires : goal.kid_count-count-requires
@@ -20,7 +19,7 @@ loop-j-init c =
     (omega arith, c.kid_count-count.ensures, refl, from_none f c.args.out.now c.args.at)
 
 pub kid_number-requires : goal.kid_number-requires
-kid_number-requires c = 
+kid_number-requires c =
     record {
       numbers = c.requires.numbers;
       j_bound = omega (arith, c.loop-j-test.true, c.loop-j.invariant.1);

@@ -1,14 +1,11 @@
 -- `write_kids` meets its contract: the loop has stored the numbers of the children below it.
-use Rattle.list_output.specs.Stores.{from_none, from_stored}
-use Rattle.list_output.specs.Words.{kid_number, kids_part}
+use Rattle.list_output.specs.Words.{kid_number}
 use Rattle.form_rows.specs.From.{from}
 use Rattle.columns.specs.Columns.{cell, count_column}
 use lib.Seq.{sets}
-use lib.ListN.{length, length-set}
-use Prim.Native.Nat.{ℕ, ◌-◌, ◌≤◌}
-use mathlib.Core.Path.{◌≡◌, refl, ap, ◌∙◌}
-use native.Mathlib.Omega.{arith}
-use borrow.Author.Rules.{rules}
+use lib.ListN.{length}
+use Prim.Native.Nat.{◌-◌, ◌≤◌}
+use mathlib.Core.Path.{◌≡◌}
 use Rattle.list_output.proofs.part.write_kids.Given as goal
 
 abbrev pub invariant-loop-j : goal.invariant-loop-j

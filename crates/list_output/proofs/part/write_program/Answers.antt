@@ -8,7 +8,6 @@ use borrow.Author.Tests.{eq-eqb, ne_eqb}
 use Prim.Native.Nat.{ℕ, ◌-◌}
 use mathlib.Core.Path.{◌≡◌, sym, ap, ◌∙◌}
 use native.Mathlib.Omega.{arith}
-use borrow.Author.Rules.{rules}
 use Rattle.list_output.proofs.part.write_program.Goals as goal
 
 pub returns-then-kind_in-ne-LUT : goal.returns-then-kind_in-ne-LUT

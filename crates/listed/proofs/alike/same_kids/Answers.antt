@@ -5,7 +5,7 @@ use Rattle.meaning.specs.Rules.Search.{lowest}
 use Rattle.meaning.proofs.Laws.SearchLaws.{NoneBelow, none_yet, none_next, lowest_here, lowest_none}
 use Rattle.columns.specs.Columns.{cell, number_column}
 use borrow.Author.Tests.{eq-eqb, ne_eqb}
-use Prim.Native.Nat.{ℕ, ◌-◌, ◌/◌, ◌≤◌}
+use Prim.Native.Nat.{ℕ, ◌-◌}
 use mathlib.Core.Bool.{true}
 use mathlib.Core.List.{List}
 use mathlib.Core.Path.{◌≡◌, sym, ap, subst, ◌∙◌}

@@ -2,7 +2,7 @@
 use Rattle.listed.specs.Likeness.{same_row, same_kids}
 use Rattle.columns.specs.Columns.{cell, count_column, kind_column, datum_column}
 use borrow.Author.Tests.{eq-eqb, ne_eqb}
-use Prim.Native.Nat.{ℕ, ◌-◌, ◌/◌}
+use Prim.Native.Nat.{ℕ, ◌-◌}
 use mathlib.Core.List.{List}
 use mathlib.Core.Path.{◌≡◌, sym, ap, ◌∙◌}
 use native.Mathlib.Omega.{arith}
@@ -54,7 +54,7 @@ returns-then-count-kid_count c =
     sym (rw (eq-eqb (cell w datum_column h) (cell w datum_column g) datums, eq-eqb (cell w kind_column h) (cell w kind_column g) kinds, ne_eqb (cell w count_column h) (cell w count_column g) (λ e. c.if-count-kid_count.true (c.kid_count-count.ensures ∙ e ∙ sym c.kid_count.ensures))))
 
 pub same_kids-requires : goal.same_kids-requires
-same_kids-requires c = 
+same_kids-requires c =
     record {
       formed = c.requires.formed;
       home = c.requires.home;

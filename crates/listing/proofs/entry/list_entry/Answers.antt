@@ -1,9 +1,8 @@
 -- `list_entry` meets its contract: an entry is stored where its tree was found nowhere.
 use Rattle.listing.specs.More.{kept_work, kept_count}
 use borrow.Author.Tests.{eq-eqb, ne_eqb}
-use Prim.Native.Nat.{◌-◌, ◌/◌}
+use Prim.Native.Nat.{◌-◌}
 use mathlib.Core.Path.{sym, ◌∙◌}
-use borrow.Author.Rules.{rules}
 use Rattle.listing.proofs.entry.list_entry.Goals as goal
 
 pub returns-then-number-count : goal.returns-then-number-count

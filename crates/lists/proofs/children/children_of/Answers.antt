@@ -1,6 +1,5 @@
 -- `children::children_of` meets its contract: no part for kinds 0 to 3, and `count` entries from `first` on for the others.
 use Prim.Native.Nat.{◌≤◌, ◌<◌, ◌+◌, ◌-◌}
-use borrow.Author.Rules.{rules}
 use borrow.Author.Tests.{lt-ltb, le-ltb}
 use lib.Dec.{ltb}
 use lib.ListN.{length}

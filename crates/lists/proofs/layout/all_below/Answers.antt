@@ -1,13 +1,11 @@
 -- `layout::all_below` meets its contract: the loop has passed lower children only, so what is left decides.
-use Prim.Native.Nat.{◌≤◌, ◌-◌}
-use borrow.Author.Rules.{rules}
+use Prim.Native.Nat.{◌-◌}
 use borrow.Author.Tests.{lt-ltb, le-ltb}
 use lib.Dec.{ltb}
-use lib.ListN.{length, drop, get_or}
+use lib.ListN.{get_or}
 use mathlib.Core.Bool.{false, true}
 use mathlib.Core.Path.{◌≡◌, refl, sym, ◌∙◌}
 use native.Mathlib.Omega.{arith}
-use Rattle.meaning.specs.Rules.Refusals.{every}
 use Rattle.lists.specs.Scan.{every_stop, every_more, every_done}
 use Rattle.lists.proofs.layout.all_below.Goals as goal
 

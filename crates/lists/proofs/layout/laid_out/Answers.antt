@@ -1,5 +1,4 @@
 -- `layout::laid_out` meets its contract: the count first, then the fields.
-use borrow.Author.Rules.{rules}
 use mathlib.Core.Bool.{false, true}
 use mathlib.Core.Path.{◌≡◌, ◌∙◌}
 use Rattle.meaning.proofs.Laws.BoolLaws.{told_yes, told_no}

@@ -1,5 +1,4 @@
 -- `layout::layout_fault` meets its contract: the kind, the layout, the children, in the definition's order.
-use borrow.Author.Rules.{rules}
 use borrow.Author.Tests.{lt-ltb, le-ltb}
 use lib.Dec.{ltb}
 use mathlib.Core.Bool.{false, true}

@@ -2,11 +2,10 @@
 use mathlib.Core.Path.{ap}
 use Rattle.meaning.specs.Rules.Calls.{Evaluated}
 use Rattle.panel_c.specs.Words.{refusal_words}
-use borrow.Author.Rules.{rules}
 use Rattle.panel_c.proofs.node_lists.panel_evaluate.Goals as goal
 
 pub returns : goal.returns
-returns c = 
+returns c =
     record {
       answer_after = ap (λ (o : Evaluated). refusal_words o.answer.refusal) c.eval-evaluation.ensures;
       work_after = ap (λ (o : Evaluated). o.work) c.eval-evaluation.ensures;

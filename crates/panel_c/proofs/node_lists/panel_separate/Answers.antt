@@ -2,15 +2,10 @@
 use Rattle.separation_words.specs.Words.{separation_words}
 use Rattle.meaning.specs.Rules.Calls.{Judged}
 use mathlib.Core.Path.{ap, ◌∙◌}
-use borrow.Author.Rules.{rules}
-use Rattle.panel_c.proofs.node_lists.panel_separate.Reads as reads
-use Rattle.panel_c.proofs.node_lists.panel_separate.Lts as lts
-use Rattle.separation_words.proofs.ten_words.Reads as ten-words-reads
-use Rattle.separator.proofs.separate.Reads as separate-reads
 use Rattle.panel_c.proofs.node_lists.panel_separate.Goals as goal
 
 pub returns : goal.returns
-returns c = 
+returns c =
     record {
       answer_after = c.ten_words.ensures ∙ ap (λ (o : Judged). separation_words o.answer) c.separate-separation.ensures;
       work_after = ap (λ (o : Judged). o.work) c.separate-separation.ensures;

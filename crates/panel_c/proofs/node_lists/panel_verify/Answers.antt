@@ -2,11 +2,10 @@
 use mathlib.Core.Path.{ap}
 use Rattle.meaning.specs.Rules.Calls.{Verified}
 use Rattle.panel_c.specs.Words.{refusal_words}
-use borrow.Author.Rules.{rules}
 use Rattle.panel_c.proofs.node_lists.panel_verify.Goals as goal
 
 pub returns : goal.returns
-returns c = 
+returns c =
     record {
       answer_after = ap (λ (o : Verified). refusal_words o.answer) c.verify_expr-refusal.ensures;
       work_after = ap (λ (o : Verified). o.work) c.verify_expr-refusal.ensures;

@@ -2,7 +2,6 @@
 use mathlib.Core.Path.{ap, ◌∙◌}
 use Rattle.meaning.specs.Rules.Tables.{cofactors_say}
 use Rattle.panel_c.specs.Words.{table_words, words_said}
-use borrow.Author.Rules.{rules}
 use Rattle.panel_c.proofs.truth_tables.panel_cofactors_in_msb.Goals as goal
 
 pub returns : goal.returns

@@ -5,7 +5,6 @@ use lib.Dec.{leb}
 use borrow.Author.Tests.{le-leb, lt-leb}
 use Rattle.meaning.specs.Rules.Tables.{table_program_says}
 use Rattle.panel_c.specs.Words.{table_words, const_input_words, words_said}
-use borrow.Author.Rules.{rules}
 use Rattle.panel_c.proofs.truth_tables.panel_eval_lut_const_input.Goals as goal
 
 pub returns-then-v-gt1 : goal.returns-then-v-gt1

@@ -2,7 +2,6 @@
 use mathlib.Core.Path.{ap, ◌∙◌}
 use Rattle.meaning.specs.Rules.Tables.{table_program_says}
 use Rattle.panel_c.specs.Words.{table_words, words_said}
-use borrow.Author.Rules.{rules}
 use Rattle.panel_c.proofs.truth_tables.panel_swap_pos.Goals as goal
 
 pub returns : goal.returns

@@ -2,7 +2,6 @@
 use mathlib.Core.Path.{ap, ◌∙◌}
 use Rattle.meaning.specs.Rules.Tables.{bit_vector_says}
 use Rattle.panel_c.specs.Words.{table_words, words_said}
-use borrow.Author.Rules.{rules}
 use Rattle.panel_c.proofs.truth_tables.panel_to_bitvec.Goals as goal
 
 pub returns : goal.returns

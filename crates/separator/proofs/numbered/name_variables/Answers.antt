@@ -6,10 +6,7 @@ use native.Mathlib.Omega.{arith}
 use mathlib.Core.Bool.{true}
 use mathlib.Core.List.{List}
 use mathlib.Core.Path.{◌≡◌, refl, subst, ◌∙◌}
-use Prim.Native.Nat.{ℕ, ◌+◌, ◌-◌, ◌≤◌, ◌<◌}
-use borrow.Author.Rules.{rules}
-use Rattle.separator.proofs.numbered.name_variables.Reads as reads
-use Rattle.separator.proofs.numbered.name_variables.Lts as lts
+use Prim.Native.Nat.{ℕ, ◌+◌, ◌-◌, ◌<◌}
 use Rattle.separator.proofs.numbered.name_variables.Goals as goal
 
 pub loop-v-init : goal.loop-v-init

@@ -1,16 +1,13 @@
 use mathlib.Core.Path.{◌≡◌, refl, sym, ap, ◌∙◌}
 use mathlib.Core.Bool.{Bool, cond}
-use mathlib.Core.List.{List}
 use Prim.Native.Nat.{ℕ, ◌-◌}
-use lib.ListN.{length, drop}
+use lib.ListN.{length}
 use lib.Dec.{eqb, ltb}
-use borrow.Author.Rules.{rules}
 use native.Mathlib.Omega.{arith}
 use Rattle.meaning.proofs.Laws.BoolLaws.{told_no, told_yes}
-use Rattle.meaning.specs.Rules.Evaluable.{Shape, bit, nth_shape}
-use Rattle.meaning.specs.Rules.Refusals.{every}
+use Rattle.meaning.specs.Rules.Evaluable.{bit, nth_shape}
 use Rattle.lists.specs.Scan.{every_stop, every_more, every_done}
-use Rattle.shapes.specs.Shapes.{Holds, holds_length, stands}
+use Rattle.shapes.specs.Shapes.{holds_length, stands}
 use Rattle.shapes.proofs.fit.all_stand.Goals as goal
 
 pub loop-at-init : goal.loop-at-init

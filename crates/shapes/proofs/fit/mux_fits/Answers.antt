@@ -15,7 +15,7 @@ returns-then-nth_shape-ne-A_BIT c =
     rw other
 
 pub alike_at-requires : goal.alike_at-requires
-alike_at-requires c = 
+alike_at-requires c =
     record {
       at_bound = omega arith;
       rows = c.requires;

@@ -3,7 +3,6 @@ use mathlib.Core.Bool.{false, true, ◌&&◌}
 use mathlib.Core.List.{List}
 use Prim.Native.Nat.{ℕ, ◌≤◌, ◌<◌}
 use lib.Dec.{eqb}
-use borrow.Author.Rules.{rules}
 use native.Mathlib.Omega.{arith}
 use Rattle.meaning.proofs.Laws.BoolLaws.{told_no, told_yes}
 use Rattle.meaning.specs.Claims.Column.{WellLaid}

@@ -1,6 +1,5 @@
 use mathlib.Core.Path.{ap, ◌∙◌}
 use Prim.Native.Nat.{ℕ, ◌+◌}
-use borrow.Author.Rules.{rules}
 use native.Mathlib.Omega.{arith}
 use Rattle.columns.specs.Columns.{cell, shape_column}
 use Rattle.shapes.specs.Shapes.{holds_nth, holds_none}

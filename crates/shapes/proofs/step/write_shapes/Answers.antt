@@ -2,7 +2,6 @@ use mathlib.Core.Path.{◌≡◌, sym, ap, ap₂, ◌∙◌}
 use mathlib.Core.List.{List}
 use Prim.Native.Nat.{ℕ, ◌≤◌, ◌<◌, ◌-◌, ◌+◌, ◌*◌}
 use lib.ListN.{length, set}
-use borrow.Author.Rules.{rules}
 use native.Mathlib.Omega.{arith}
 use Rattle.meaning.specs.Claims.Column.{WellLaid}
 use Rattle.meaning.specs.Rules.Evaluable.{shape_code, shape_step}

@@ -1,7 +1,6 @@
 -- `width_of` meets its contract: a bit, or a bus by its code.
 use Rattle.shapes.specs.Shapes.{bit_width, bus_width}
 use mathlib.Core.Path.{◌∙◌}
-use borrow.Author.Rules.{rules}
 use Rattle.shapes.proofs.width.width_of.Goals as goal
 
 pub returns-then-shape-eq-A_BIT : goal.returns-then-shape-eq-A_BIT

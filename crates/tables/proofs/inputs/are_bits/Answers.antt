@@ -1,10 +1,7 @@
 -- `tables::inputs::are_bits` meets its contract: the loop has passed bits only, so what is left decides.
-use lib.ListN.{length, drop}
-use mathlib.Core.Path.{◌≡◌, refl, sym, ◌∙◌}
-use Prim.Native.Nat.{◌-◌, ◌≤◌}
+use mathlib.Core.Path.{refl, sym, ◌∙◌}
+use Prim.Native.Nat.{◌-◌}
 use native.Mathlib.Omega.{arith}
-use borrow.Author.Rules.{rules}
-use Rattle.meaning.specs.Rules.Tables as meant
 use Rattle.tables.specs.Inputs.{bits_on, bits_stop, bits_end}
 use Rattle.tables.proofs.inputs.are_bits.Goals as goal
 

@@ -1,11 +1,8 @@
 -- `tables::inputs::are_bits` meets its contract: the loop has passed bits only, so what is left decides.
 use lib.ListN.{length, drop}
-use mathlib.Core.Path.{◌≡◌, refl, sym, ◌∙◌}
+use mathlib.Core.Path.{◌≡◌}
 use Prim.Native.Nat.{◌-◌, ◌≤◌}
-use native.Mathlib.Omega.{arith}
-use borrow.Author.Rules.{rules}
 use Rattle.meaning.specs.Rules.Tables as meant
-use Rattle.tables.specs.Inputs.{bits_on, bits_stop, bits_end}
 use Rattle.tables.proofs.inputs.are_bits.Given as goal
 
 abbrev pub invariant-loop-i : goal.invariant-loop-i

@@ -1,7 +1,6 @@
 -- `tables::inputs::eval_read` meets its contract: the range test, then the bit at the row.
 use Prim.Native.Nat.{ℕ}
 use native.Mathlib.Omega.{arith}
-use borrow.Author.Rules.{rules}
 use Rattle.meaning.proofs.Laws.BoolLaws.{told_yes, told_no}
 use Rattle.tables.specs.Inputs.{bit_told}
 use Rattle.meaning.proofs.Laws.WordLaws.{bit_lt}

@@ -3,7 +3,6 @@ use lib.ListN.{length}
 use mathlib.Core.Path.{sym}
 use Prim.Native.Nat.{◌-◌}
 use native.Mathlib.Omega.{arith}
-use borrow.Author.Rules.{rules}
 use Rattle.tables.specs.Inputs.{back_at}
 use Rattle.tables.proofs.inputs.input_at.Goals as goal
 

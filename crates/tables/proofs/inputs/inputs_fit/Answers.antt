@@ -1,7 +1,6 @@
 -- `tables::inputs::inputs_fit` meets its contract: the length, then the bytes.
 use lib.ListN.{length}
 use borrow.Author.Tests.{le-leb, lt-leb}
-use borrow.Author.Rules.{rules}
 use Rattle.tables.proofs.inputs.inputs_fit.Goals as goal
 
 pub returns-then-inputs-gt-MOST_OPERANDS : goal.returns-then-inputs-gt-MOST_OPERANDS

@@ -1,10 +1,9 @@
 -- `tables::inputs::row_of` meets its contract: the loop has the row of the bytes read, which is below 64.
 use lib.Seq.{take_all}
-use lib.ListN.{length, take}
-use mathlib.Core.Path.{◌≡◌, refl, ap, ◌∙◌}
+use lib.ListN.{length}
+use mathlib.Core.Path.{refl, ap, ◌∙◌}
 use Prim.Native.Nat.{◌-◌, ◌≤◌}
 use native.Mathlib.Omega.{arith}
-use borrow.Author.Rules.{rules}
 use Rattle.meaning.specs.Rules.Tables as meant
 use Rattle.tables.specs.Inputs.{read_in, read_length, row_more, byte_lt, part_lt}
 use Rattle.tables.proofs.inputs.row_of.Goals as goal
@@ -27,13 +26,12 @@ overflow_add-row c =
     )
 
 pub loop-i-preserved : goal.loop-i-preserved
-loop-i-preserved c =
-    (
-      omega arith,
-      c.loop-i.invariant.1,
-      row_more (read_in c.args.forward c.args.inputs.now) c.loop-i.i c.loop-i.row c.input_at.result
-          (omega (arith, read_length c.args.forward c.args.inputs.now)) c.loop-i.invariant.2 c.input_at.ensures,
-    )
+loop-i-preserved c = (
+  omega arith,
+  c.loop-i.invariant.1,
+  row_more (read_in c.args.forward c.args.inputs.now) c.loop-i.i c.loop-i.row c.input_at.result
+      (omega (arith, read_length c.args.forward c.args.inputs.now)) c.loop-i.invariant.2 c.input_at.ensures,
+)
 
 pub returns : goal.returns
 returns c =

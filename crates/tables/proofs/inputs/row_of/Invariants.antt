@@ -1,12 +1,9 @@
 -- `tables::inputs::row_of` meets its contract: the loop has the row of the bytes read, which is below 64.
-use lib.Seq.{take_all}
 use lib.ListN.{length, take}
-use mathlib.Core.Path.{◌≡◌, refl, ap, ◌∙◌}
+use mathlib.Core.Path.{◌≡◌}
 use Prim.Native.Nat.{◌-◌, ◌≤◌}
-use native.Mathlib.Omega.{arith}
-use borrow.Author.Rules.{rules}
 use Rattle.meaning.specs.Rules.Tables as meant
-use Rattle.tables.specs.Inputs.{read_in, read_length, row_more, byte_lt, part_lt}
+use Rattle.tables.specs.Inputs.{read_in}
 use Rattle.tables.proofs.inputs.row_of.Given as goal
 
 abbrev pub invariant-loop-i : goal.invariant-loop-i
