@@ -1,5 +1,5 @@
 -- A variable's byte as the code reads it: inside the slice the default of a reading does not matter.
-use Rattle.std.specs.Prelude.{ℕ, zero, suc, ◌<◌, ◌≡◌, refl, List, ◌∷◌, length, get_or}
+use Rattle.std.specs.Prelude.{ℕ, zero, suc, ◌<◌, ◌≡◌, refl, List, [], ◌∷◌, length, get_or}
 use Rattle.std.proofs.Common.{arith}
 use Rattle.meaning.specs.Rules.Assignments.{given}
 

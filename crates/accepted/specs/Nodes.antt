@@ -1,6 +1,6 @@
 -- What a list past number 8 (Claims/Column, `Sound`) gives each of its nodes: it is the node over its children's trees, has as
 -- many of them as its kind may have, each is reachable with it, and it fits them.
-use Rattle.std.specs.Prelude.{ℕ, zero, suc, ◌-◌, ◌<◌, ◌≡◌, refl, ◌≢◌, List, ◌∷◌, not, ◌&&◌, ◌||◌, length, get_or, drop}
+use Rattle.std.specs.Prelude.{ℕ, zero, suc, ◌-◌, ◌<◌, ◌≡◌, refl, ◌≢◌, List, [], ◌∷◌, not, ◌&&◌, ◌||◌, length, get_or, drop}
 use Rattle.std.proofs.Common.{ap, arith, ltb-true, lt-ltb, le-ltb}
 use Rattle.std.proofs.Math.Bool.{true, false}
 use Rattle.std.proofs.Math.Decide.{dec_lt}

@@ -1,7 +1,7 @@
 -- What an evaluator asks at each kind of a list past number 8: which children it reads as operands, and how wide their answers
 -- are. What rests on a Lut's first child being no operand is in proofs/Operands: which operands a Lut has, and that each
 -- operand has an answer.
-use Rattle.std.specs.Prelude.{ℕ, zero, suc, ◌^◌, ◌≤◌, ◌<◌, ◌≡◌, refl, ◌≢◌, ◌⊎◌, List, ◌∷◌, Bool, true, false, cond, not, ◌&&◌, ◌||◌, length, drop, ltb, leb, eqb}
+use Rattle.std.specs.Prelude.{ℕ, zero, suc, ◌^◌, ◌≤◌, ◌<◌, ◌≡◌, refl, ◌≢◌, ◌⊎◌, List, [], ◌∷◌, Bool, true, false, cond, not, ◌&&◌, ◌||◌, length, drop, ltb, leb, eqb}
 use Rattle.std.proofs.Math.Path.{sym}
 use Rattle.std.proofs.Common.{subst, ◌∙◌, ⊎_elim, arith, eqb-true, ltb-false, lt-ltb, leb-true}
 use Rattle.std.proofs.Math.ListN.{get_or}

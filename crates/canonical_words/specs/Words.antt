@@ -1,5 +1,5 @@
 -- What the canonicaliser answers as words: its number and node, and how many words of each output slice the list takes.
-use Rattle.std.specs.Prelude.{ℕ, List, ◌∷◌}
+use Rattle.std.specs.Prelude.{ℕ, List, [], ◌∷◌}
 use Rattle.meaning.specs.declared.Canonical.{Canonical}
 
 abbrev pub canonical_words : Canonical → List ℕ

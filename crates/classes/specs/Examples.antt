@@ -1,6 +1,6 @@
 -- Classes written out: `(AND v0 v0)` laid out in two ways. In the first list v0 stands twice, and v1 between them, where
 -- no path leads to it; in the second v0 stands once, behind a v1 that no path leads to.
-use Rattle.std.specs.Prelude.{ℕ, ◌≡◌, refl, List, ◌∷◌, ◌++◌, true}
+use Rattle.std.specs.Prelude.{ℕ, ◌≡◌, refl, List, [], ◌∷◌, ◌++◌, true}
 use Rattle.meaning.specs.Rules.Kinds.{variable_word}
 use Rattle.meaning.specs.Rules.Trees.{same, node_of, datum_at, children_at, trees_of, tree_of, root_of}
 use Rattle.meaning.specs.Rules.Reach.{marks}

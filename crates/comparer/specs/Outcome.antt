@@ -1,5 +1,5 @@
 -- The comparison's call, way by way: what is answered, and what the work space holds.
-use Rattle.std.specs.Prelude.{ℕ, ◌+◌, ◌≤◌, ◌≡◌, ◌≢◌, List, ◌∷◌, true, false, cond, length, leb}
+use Rattle.std.specs.Prelude.{ℕ, ◌+◌, ◌≤◌, ◌≡◌, ◌≢◌, List, [], ◌∷◌, true, false, cond, length, leb}
 use Rattle.std.proofs.Math.Path.{refl, sym, ap}
 use Rattle.std.proofs.Common.{◌∙◌}
 use borrow.Author.Tests.{leb-true, eq-eqb, ne_eqb}

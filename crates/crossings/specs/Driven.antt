@@ -1,6 +1,6 @@
 -- "bit v drives variable v, for 2^n assignments": an assignment of the n declared variables, and the same with its run bits
 -- cleared, told by the bits of their numbers.
-use Rattle.std.specs.Prelude.{ℕ, zero, suc, min, ◌-◌, ◌/◌, ◌^◌, ◌≤◌, ◌<◌, ◌≡◌, refl, List, ◌∷◌, ◌++◌, Bool, true, false, cond, length, eqb}
+use Rattle.std.specs.Prelude.{ℕ, zero, suc, min, ◌-◌, ◌/◌, ◌^◌, ◌≤◌, ◌<◌, ◌≡◌, refl, List, [], ◌∷◌, ◌++◌, Bool, true, false, cond, length, eqb}
 use Rattle.std.proofs.Common.{sym, ap, ◌∙◌, arith, shr-shr, eq-eqb, lt-ltb, le-ltb}
 use Rattle.std.proofs.Math.Path.{fun_ext}
 use Rattle.std.proofs.Math.Decide.{dec_lt}

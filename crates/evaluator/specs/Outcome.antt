@@ -2,7 +2,7 @@
 use Rattle.std.specs.Prelude.{ℕ, ◌-◌, ◌≡◌, ◌≢◌, length}
 use Rattle.std.proofs.Math.Path.{refl, ap, ap₂}
 use Rattle.std.proofs.Common.{sym, ◌∙◌, eq-eqb, ne_eqb}
-use mathlib.Core.List.{List, ◌∷◌}
+use mathlib.Core.List.{List, [], ◌∷◌}
 use Rattle.meaning.specs.declared.Refusal.{Refusal}
 use Rattle.meaning.specs.declared.Evaluation.{Evaluation}
 use Rattle.meaning.specs.declared.Answer.{Answer}

@@ -1,5 +1,5 @@
 -- The k numbers f j, f (j + 1), … as a list: how the children of a row are read.
-use Rattle.std.specs.Prelude.{ℕ, zero, suc, ◌+◌, ◌<◌, ◌≡◌, refl, List, ◌∷◌, length, get_or}
+use Rattle.std.specs.Prelude.{ℕ, zero, suc, ◌+◌, ◌<◌, ◌≡◌, refl, List, [], ◌∷◌, length, get_or}
 use Rattle.std.proofs.Common.{ap, ap₂, ◌∙◌, arith, add-zero}
 
 unfoldable pub from : (ℕ → ℕ) → ℕ → ℕ → List ℕ

@@ -1,6 +1,6 @@
 -- "bit j of assignment i drives the j-th smallest variable", in bytes: what a loop from the last variable down has written,
 -- and that it is `drive` of meaning's Rules/Assignments where the other bytes are undriven.
-use Rattle.std.specs.Prelude.{ℕ, suc, ◌/◌, ◌%◌, ◌^◌, ◌≤◌, ◌<◌, ◌≡◌, refl, List, ◌∷◌, Bool, true, false, cond, length, get_or, drop, set, eqb}
+use Rattle.std.specs.Prelude.{ℕ, suc, ◌/◌, ◌%◌, ◌^◌, ◌≤◌, ◌<◌, ◌≡◌, refl, List, [], ◌∷◌, Bool, true, false, cond, length, get_or, drop, set, eqb}
 use Rattle.std.proofs.Common.{ap, ◌∙◌, arith, add-one, drop-cons, get_or-set_same, get_or-set_other, shr-shr, eqb-true}
 use Rattle.std.proofs.Math.Path.{fun_ext}
 use Rattle.std.proofs.Math.Seq.{drop-length}

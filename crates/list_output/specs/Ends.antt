@@ -1,5 +1,5 @@
 -- The words of a list of subtrees (meaning's Rules/Listing), with one subtree more at its end.
-use Rattle.std.specs.Prelude.{ℕ, ◌+◌, ◌≡◌, List, ◌∷◌, ◌++◌, length}
+use Rattle.std.specs.Prelude.{ℕ, ◌+◌, ◌≡◌, List, [], ◌∷◌, ◌++◌, length}
 use Rattle.std.proofs.Common.{sym, ap, ◌∙◌, append_assoc, append-nil, add-zero, arith, length-append}
 use Rattle.meaning.specs.Rules.Trees.{Tree, children, trees}
 use Rattle.meaning.specs.Rules.Listing.{child_numbers, node_at, node_words, pool_words}

@@ -1,6 +1,6 @@
 -- One entry's words, case by case: a node that has a part of the pool and one that has a datum; a Program that stands
 -- at no node and a form.
-use Rattle.std.specs.Prelude.{ℕ, ◌+◌, ◌/◌, ◌%◌, ◌^◌, ◌≤◌, ◌<◌, ◌≡◌, ◌≢◌, List, ◌++◌}
+use Rattle.std.specs.Prelude.{ℕ, ◌+◌, ◌/◌, ◌%◌, ◌^◌, ◌≤◌, ◌<◌, ◌≡◌, ◌≢◌, List, [], ◌++◌}
 use borrow.Author.Tests.{eq-eqb, ne_eqb, lt-ltb, le-ltb}
 use Rattle.meaning.specs.Rules.Kinds.{variable_word}
 use Rattle.meaning.specs.Rules.Trees.{node_of}

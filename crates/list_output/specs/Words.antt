@@ -1,6 +1,6 @@
 -- The words of the list as the rows of the work space say them: an entry's kind, datum and children, its node, its part
 -- of the pool. specs/Canonical shows that they are those of the canonical list.
-use Rattle.std.specs.Prelude.{ℕ, zero, suc, ◌+◌, ◌-◌, ◌/◌, ◌%◌, ◌^◌, ◌≤◌, ◌<◌, ◌≡◌, List, ◌∷◌, ◌++◌, cond, eqb}
+use Rattle.std.specs.Prelude.{ℕ, zero, suc, ◌+◌, ◌-◌, ◌/◌, ◌%◌, ◌^◌, ◌≤◌, ◌<◌, ◌≡◌, List, [], ◌∷◌, ◌++◌, cond, eqb}
 use Rattle.meaning.specs.Rules.Limits.{widest_bus}
 use Rattle.meaning.specs.Rules.Kinds.{program_word, lut_word, cycle_word, has_children}
 use Rattle.meaning.specs.Rules.Trees.{node_count, node_of}

@@ -1,7 +1,7 @@
 -- The subtrees seen so far, as the listing keeps them (meaning's Rules/Listing, `keep` and `visit`): a tree that is there
 -- has the number at which it was put, whatever comes behind; one that is not is put last; a visit of one that is there
 -- changes nothing.
-use Rattle.std.specs.Prelude.{ℕ, zero, suc, ◌≤◌, ◌<◌, ◌≡◌, List, ◌∷◌, ◌++◌, Bool, length, take, eqb}
+use Rattle.std.specs.Prelude.{ℕ, zero, suc, ◌≤◌, ◌<◌, ◌≡◌, List, [], ◌∷◌, ◌++◌, Bool, length, take, eqb}
 use Rattle.std.proofs.Math.Path.{refl}
 use Rattle.std.proofs.Common.{sym, ap, subst, ◌∙◌, arith, length-take, get_or-take, eq-eqb, ne_eqb}
 use Rattle.std.proofs.Math.Bool.{true, false, or-true}

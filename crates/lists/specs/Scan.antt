@@ -1,6 +1,6 @@
 -- A loop that asks a test of each member of a list, from the first on, and stops where the answer is known: what a turn, a
 -- stop and the end say of `every` and `some` of meaning's Rules/Refusals.
-use Rattle.std.specs.Prelude.{ℕ, zero, suc, ◌+◌, ◌≤◌, ◌<◌, ◌≡◌, refl, List, ◌∷◌, Bool, true, false, length, get_or, drop, eqb}
+use Rattle.std.specs.Prelude.{ℕ, zero, suc, ◌+◌, ◌≤◌, ◌<◌, ◌≡◌, refl, List, [], ◌∷◌, Bool, true, false, length, get_or, drop, eqb}
 use Rattle.std.proofs.Math.Bool.{or-true}
 use Rattle.std.proofs.Common.{arith, add-one, drop_of_length-le, drop-cons, eq-eqb}
 use Rattle.meaning.specs.Rules.Refusals.{every, some}

@@ -1,7 +1,7 @@
 -- The marks on the way down. A node's mark is the nearest of those that come through the nodes above it (Rules/Reach,
 -- `through_all`, a fold over the marks from a node on); so after the nodes above p have handed on, each lower node holds that
 -- fold as far as p, and the nodes from p on hold their marks. One turn is one clause of the fold.
-use Rattle.std.specs.Prelude.{ℕ, zero, suc, ◌+◌, ◌-◌, ◌*◌, ◌≤◌, ◌<◌, ◌≡◌, refl, List, ◌∷◌, Bool, true, false, cond, ◌&&◌, length, get_or, ltb, eqb}
+use Rattle.std.specs.Prelude.{ℕ, zero, suc, ◌+◌, ◌-◌, ◌*◌, ◌≤◌, ◌<◌, ◌≡◌, refl, List, [], ◌∷◌, Bool, true, false, cond, ◌&&◌, length, get_or, ltb, eqb}
 use Rattle.std.proofs.Common.{sym, ap, ap₂, ◌∙◌, arith, zero-add, suc-add, drop_of_length-le, drop-cons, lt-ltb, le-ltb, eq-eqb, ne_eqb, ltb-true}
 use Rattle.std.proofs.Math.Path.{subst}
 use Rattle.std.proofs.Math.Decide.{dec_lt, ℕ_discrete}

@@ -1,6 +1,6 @@
 -- A loop over a Lut's operands, and one over a Bus's members, as the code goes: what has been gathered up to place i, what one
 -- turn adds, what a failure ends and what the end says. The answers of all children are xs; a Lut's first is its program's.
-use Rattle.std.specs.Prelude.{ℕ, suc, ◌+◌, ◌-◌, ◌*◌, ◌^◌, ◌≤◌, ◌<◌, ◌≡◌, refl, List, ◌∷◌, length, drop}
+use Rattle.std.specs.Prelude.{ℕ, suc, ◌+◌, ◌-◌, ◌*◌, ◌^◌, ◌≤◌, ◌<◌, ◌≡◌, refl, List, [], ◌∷◌, length, drop}
 use Rattle.std.proofs.Common.{sym, ap, subst, ◌∙◌, lt_of_lt_of_le, add-one, arith, drop_of_length-le, drop-cons, pow_mono}
 use Rattle.meaning.specs.declared.Failure.{Failure}
 use Rattle.meaning.specs.declared.Answer.{Answer}

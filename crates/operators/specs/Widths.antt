@@ -1,5 +1,5 @@
 -- How wide an answer is. The operators count on values that their widths hold; each law says that an operator keeps that.
-use Rattle.std.specs.Prelude.{ℕ, suc, ◌+◌, ◌-◌, ◌*◌, ◌^◌, ◌≤◌, ◌<◌, ◌≡◌, refl, List, ◌∷◌, Bool, true, false, cond, length, ltb, eqb}
+use Rattle.std.specs.Prelude.{ℕ, suc, ◌+◌, ◌-◌, ◌*◌, ◌^◌, ◌≤◌, ◌<◌, ◌≡◌, refl, List, [], ◌∷◌, Bool, true, false, cond, length, ltb, eqb}
 use Rattle.std.proofs.Common.{sym, ap, subst, ◌∙◌, pow-suc, lt_of_lt_of_le, zero-add, arith, pow_pos, pow_mono, ltb-true}
 use Rattle.std.specs.Int.Bits.{and_lt}
 use Rattle.std.proofs.lemmas.Nat.{xor_lt}

@@ -1,5 +1,5 @@
 -- The words of an answer as the C interface lays them down (include/panel.h).
-use Rattle.std.specs.Prelude.{ℕ, ◌≡◌, List, ◌∷◌, cond, leb, eqb}
+use Rattle.std.specs.Prelude.{ℕ, ◌≡◌, List, [], ◌∷◌, cond, leb, eqb}
 use Rattle.meaning.specs.declared.Refusal.{Refusal}
 use Rattle.meaning.specs.Rules.Numbers.{bad_table}
 use Rattle.meaning.specs.Rules.Tables.{TableAnswer, eval_lut_const_input}

@@ -1,5 +1,5 @@
 -- A result with two answers as words: its number and node, what was found and at which assignment, and both answers.
-use Rattle.std.specs.Prelude.{ℕ, List, ◌∷◌}
+use Rattle.std.specs.Prelude.{ℕ, List, [], ◌∷◌}
 use Rattle.meaning.specs.declared.Answer.{Answer}
 use Rattle.meaning.specs.declared.Refusal.{Refusal}
 use Rattle.meaning.specs.Rules.Answers.{state_of, answer_width, value_of}

@@ -2,7 +2,7 @@
 use Rattle.std.specs.Prelude.{ℕ, zero, suc, ◌+◌, ◌-◌, ◌*◌, ◌≤◌, ◌<◌, ◌≡◌, refl, ◌≢◌, Bool, true, cond, not, ◌&&◌, ◌||◌, length, get_or, eqb}
 use Rattle.std.proofs.Common.{sym, ◌∙◌, arith, ltb-true, lt-ltb}
 use Rattle.std.proofs.Math.Path.{ap}
-use mathlib.Core.List.{List, ◌∷◌}
+use mathlib.Core.List.{List, [], ◌∷◌}
 use Rattle.std.proofs.Math.Dec.{ltb}
 use Rattle.meaning.proofs.Laws.BoolLaws.{and_left, and_right}
 use Rattle.meaning.proofs.Laws.TreeLaws.{tree_at}

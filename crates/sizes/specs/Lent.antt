@@ -1,6 +1,6 @@
 -- Numbers 1, 2 and 10 of a call that is brought one list or two: what code may rely on past them, and that they leave the work
 -- space.
-use Rattle.std.specs.Prelude.{ℕ, ◌+◌, ◌*◌, ◌≤◌, ◌≡◌, refl, ◌⊎◌, ◌≢◌, List, ◌∷◌, true, false, ◌||◌, length, eqb}
+use Rattle.std.specs.Prelude.{ℕ, ◌+◌, ◌*◌, ◌≤◌, ◌≡◌, refl, ◌⊎◌, ◌≢◌, List, [], ◌∷◌, true, false, ◌||◌, length, eqb}
 use Rattle.std.proofs.Common.{inl, inr, ⊎_elim, arith, eqb-true, eq-eqb}
 use Rattle.meaning.specs.declared.Refusal.{Refusal}
 use Rattle.meaning.specs.Rules.Limits.{most_nodes, work_per_node}

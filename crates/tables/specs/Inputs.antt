@@ -2,7 +2,7 @@
 -- first is the high row bit in both, so one definition and its laws serve the two.
 use Rattle.std.specs.Prelude.{ℕ, zero, suc, ◌+◌, ◌-◌, ◌*◌, ◌≤◌, ◌<◌, ◌≡◌, refl, Bool, true, false, cond, ◌&&◌, length, get_or, take, drop, ltb, leb, eqb}
 use Rattle.std.proofs.Common.{sym, ap, ◌∙◌, length-take, drop_of_length-le, take-suc, drop-cons, pow_mono, add-one, arith, ltb-true, leb-true, lt-ltb, le-ltb}
-use mathlib.Core.List.{List, ◌∷◌, ◌++◌, reverse, reverse-cons}
+use mathlib.Core.List.{List, [], ◌∷◌, ◌++◌, reverse, reverse-cons}
 use Rattle.std.proofs.lemmas.List.{length-reverse, get_or_at}
 use Rattle.std.proofs.Math.ListN.{get_or-append}
 use Rattle.std.proofs.Math.Seq.{take-length}

@@ -1,5 +1,5 @@
 -- The examples that document 01 marks * ("Panel bench examples"), in its order, as one table under one claim.
-use Rattle.std.specs.Prelude.{ℕ, refl, List, ◌∷◌, ◌++◌}
+use Rattle.std.specs.Prelude.{ℕ, refl, List, [], ◌∷◌, ◌++◌}
 use Rattle.meaning.specs.declared.Failure.TheVariants.{DontCare}
 use Rattle.meaning.specs.declared.Answer.TheVariants.{Value, Failed}
 use Rattle.meaning.specs.declared.Check.TheVariants.{Equiv, NotEquiv, Inconclusive}

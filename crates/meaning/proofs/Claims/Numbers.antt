@@ -2,7 +2,7 @@
 -- table's column (Claims/Column) and of the order below it, with the node that it names.
 -- `Exactly r n P`: r is number n at node i exactly when P i. `NoNode P i`: P, and i is 0. `Passed r P`: r is 0 exactly when
 -- P. `Says r a`: r is 0 or a number of a, and no other.
-use Rattle.std.specs.Prelude.{ℕ, suc, ◌+◌, ◌%◌, ◌≤◌, ◌<◌, ◌≡◌, ◌⊎◌, List, ◌∷◌, ◌++◌, true, false, ◌||◌, length, ltb, leb}
+use Rattle.std.specs.Prelude.{ℕ, suc, ◌+◌, ◌%◌, ◌≤◌, ◌<◌, ◌≡◌, ◌⊎◌, List, [], ◌∷◌, ◌++◌, true, false, ◌||◌, length, ltb, leb}
 use Rattle.std.proofs.Math.Path.{refl}
 use Rattle.std.proofs.Common.{arith, ne_eqb}
 use Rattle.meaning.specs.declared.Refusal.{Refusal}

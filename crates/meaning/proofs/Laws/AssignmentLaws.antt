@@ -1,5 +1,5 @@
 -- Every assignment of a list of variables has a number, and answers are the same exactly if the test says so.
-use Rattle.std.specs.Prelude.{ℕ, zero, suc, ◌+◌, ◌*◌, ◌/◌, ◌%◌, ◌^◌, ◌<◌, ◌≡◌, refl, List, ◌∷◌, ◌++◌, Bool, true, false, cond, ◌&&◌, ◌||◌, length, ltb, eqb}
+use Rattle.std.specs.Prelude.{ℕ, zero, suc, ◌+◌, ◌*◌, ◌/◌, ◌%◌, ◌^◌, ◌<◌, ◌≡◌, refl, List, ◌∷◌, ◌++◌, [], Bool, true, false, cond, ◌&&◌, ◌||◌, length, ltb, eqb}
 use Rattle.std.proofs.Common.{zero-le, sym, ap, ap₂, ◌∙◌, subst, pow-suc, arith, length-append, add-one, eqb-true, eq-eqb, ne_eqb, lt-ltb, le-ltb}
 use Rattle.std.proofs.Math.Path.{fun_ext}
 use Rattle.std.proofs.Math.Bool.{or-true, false-or, or-false, or_assoc, and-true, and-false}

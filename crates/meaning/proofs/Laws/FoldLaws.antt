@@ -1,6 +1,6 @@
 -- Folding keeps a Lut's answer, whatever its operands, where these have bits for answers (document 01, "Canonical list").
 use Prim.Native.Nat.{ℕ, zero, suc, ◌+◌, ◌-◌, ◌*◌, ◌^◌, ◌<◌}
-use Rattle.std.specs.Prelude.{◌≡◌, refl, List, ◌∷◌, ◌++◌, Bool, true, false, length, get_or, take, drop}
+use Rattle.std.specs.Prelude.{◌≡◌, refl, List, ◌∷◌, ◌++◌, [], Bool, true, false, length, get_or, take, drop}
 use Rattle.std.proofs.Common.{sym, ◌∙◌, arith, length-append, length-take, length-drop, eqb-true, lt-ltb, le-ltb}
 use Rattle.std.proofs.Math.Path.{ap}
 use Rattle.std.proofs.Math.Decide.{dec_lt}

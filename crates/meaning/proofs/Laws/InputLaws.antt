@@ -1,5 +1,5 @@
 -- "the variables below the first root": a variable occurs in the root's tree exactly if a reachable node is that variable.
-use Rattle.std.specs.Prelude.{ℕ, zero, suc, ◌-◌, ◌<◌, ◌≡◌, refl, ◌↔◌, List, ◌∷◌, Bool, false, ◌&&◌, ◌||◌, ltb}
+use Rattle.std.specs.Prelude.{ℕ, zero, suc, ◌-◌, ◌<◌, ◌≡◌, refl, ◌↔◌, [], List, ◌∷◌, Bool, false, ◌&&◌, ◌||◌, ltb}
 use Rattle.std.proofs.Common.{sym, ap, ◌∙◌, ⊎_elim, arith}
 use Rattle.std.proofs.Math.Path.{subst}
 use Rattle.std.proofs.Math.Bool.{true, or-true}

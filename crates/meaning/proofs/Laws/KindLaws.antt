@@ -1,5 +1,5 @@
 -- Kinds and their words: the kinds that a range of words stands for, and those that one word alone stands for.
-use Rattle.std.specs.Prelude.{ℕ, zero, suc, ◌+◌, ◌-◌, ◌≤◌, ◌<◌, ◌≡◌, refl, List, ◌∷◌, true, get_or, leb}
+use Rattle.std.specs.Prelude.{ℕ, zero, suc, ◌+◌, ◌-◌, ◌≤◌, ◌<◌, ◌≡◌, refl, List, [], ◌∷◌, true, get_or, leb}
 use Rattle.std.proofs.Common.{subst, arith, leb-true}
 use Rattle.std.proofs.Math.ListN.{get_or-eq_default}
 use Rattle.meaning.specs.Rules.Kinds.{Kind, Const, Program, DC, Var, Nor, Mux, And, Xor, Not, Lut, Bus, Reg, Arg, Cycle, Unknown, kinds, kind_of}

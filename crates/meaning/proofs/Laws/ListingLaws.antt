@@ -3,7 +3,7 @@ use Prim.Native.Nat.{ℕ, zero, suc, ◌+◌, ◌-◌, ◌*◌, ◌^◌, ◌≤�
 use Rattle.std.specs.Prelude.{◌≡◌, ◌≢◌, Bool, true, false, cond, get_or, take, drop, ltb, eqb}
 use Rattle.std.proofs.Math.Path.{refl, sym}
 use Rattle.std.proofs.Common.{ap, ap₂, subst, ◌∙◌, arith, mod-eq_of_lt, add-zero, length-append, length-take, drop_at, get_or-take, get_or-append-add}
-use mathlib.Core.List.{List, ◌∷◌, ◌++◌, map, append_assoc}
+use mathlib.Core.List.{List, ◌∷◌, ◌++◌, map, append_assoc, []}
 use Rattle.std.proofs.Math.Decide.{dec_lt}
 use Rattle.std.proofs.Math.ListN.{length, get_or-append}
 use Rattle.std.proofs.lemmas.List.{length-map, take-append-le, get_or_at}

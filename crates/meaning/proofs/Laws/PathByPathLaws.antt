@@ -1,6 +1,6 @@
 -- 000's walk path by path and the marks agree (document 01, "Verification": "Yes or no equals the Rust's"): a node that
 -- passes its test under the least number of Cycle nodes over it passes under more, and some path has the least number.
-use Rattle.std.specs.Prelude.{ℕ, zero, suc, ◌+◌, ◌-◌, ◌≤◌, ◌<◌, ◌≡◌, ◌↔◌, List, ◌∷◌, cond, ◌&&◌, ltb, leb}
+use Rattle.std.specs.Prelude.{ℕ, zero, suc, ◌+◌, ◌-◌, ◌≤◌, ◌<◌, ◌≡◌, ◌↔◌, [], List, ◌∷◌, cond, ◌&&◌, ltb, leb}
 use Rattle.std.proofs.Math.Path.{refl, subst}
 use Rattle.std.proofs.Common.{sym, ap, ◌∙◌, arith}
 use Rattle.std.proofs.Math.Bool.{Bool, true, false, not, or-true}

@@ -1,6 +1,6 @@
 -- The marks are right: a node's mark is 1 + the least number of Cycle nodes over it on any path from the root, and 0 where
 -- there is no path. (The definition in `Refusals` computes; this is what it computes.)
-use Rattle.std.specs.Prelude.{ℕ, zero, suc, ◌+◌, ◌-◌, ◌≤◌, ◌<◌, ◌≡◌, refl, ◌⊎◌, List, ◌∷◌, Bool, true, false, cond, ◌&&◌, length, get_or, ltb, eqb}
+use Rattle.std.specs.Prelude.{ℕ, zero, suc, ◌+◌, ◌-◌, ◌≤◌, ◌<◌, ◌≡◌, refl, ◌⊎◌, [], List, ◌∷◌, Bool, true, false, cond, ◌&&◌, length, get_or, ltb, eqb}
 use Rattle.std.proofs.Common.{sym, ap, ap₂, subst, ◌∙◌, inl, inr, le_trans, arith, lt-ltb, ltb-true}
 use Rattle.std.proofs.Math.Decide.{dec_lt}
 use Rattle.meaning.proofs.Laws.BoolLaws.{and_both, and_left, and_right}

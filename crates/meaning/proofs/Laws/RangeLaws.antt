@@ -1,5 +1,5 @@
 -- Number 13 and number 19: a test outside which a routine answers nothing else.
-use Rattle.std.specs.Prelude.{ℕ, ◌≤◌, ◌<◌, ◌≡◌, refl, ◌↔◌, List, ◌∷◌, Bool, true, false, cond, length, get_or, ltb}
+use Rattle.std.specs.Prelude.{ℕ, ◌≤◌, ◌<◌, ◌≡◌, refl, ◌↔◌, List, [], ◌∷◌, Bool, true, false, cond, length, get_or, ltb}
 use Rattle.std.proofs.Common.{arith}
 use Rattle.meaning.specs.Rules.Refusals.{every}
 use Rattle.meaning.specs.Rules.Tables.{TableAnswer, in_range, says, are_bits}

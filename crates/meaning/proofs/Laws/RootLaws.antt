@@ -1,6 +1,6 @@
 -- From the tests node by node to the root's tree: an accepted list without DC, register or ARG below the root is Made.
 use Prim.Native.Nat.{ℕ, zero, suc, ◌+◌, ◌-◌, ◌≤◌, ◌<◌}
-use Rattle.std.specs.Prelude.{◌≡◌, refl, List, ◌∷◌, Bool, cond, ◌&&◌, ◌||◌, length, drop, ltb, eqb}
+use Rattle.std.specs.Prelude.{◌≡◌, refl, [], List, ◌∷◌, Bool, cond, ◌&&◌, ◌||◌, length, drop, ltb, eqb}
 use Rattle.std.proofs.Common.{sym, ap, subst, ◌∙◌}
 use Rattle.std.proofs.Math.Bool.{true, false, not, or-true}
 use native.Mathlib.Omega.{arith}

@@ -1,5 +1,5 @@
 -- Truth tables, "shown once over k": the row of a table is what it was made from, and dropping an operand keeps the rows left.
-use Rattle.std.specs.Prelude.{ℕ, zero, suc, ◌+◌, ◌-◌, ◌*◌, ◌%◌, ◌^◌, ◌<◌, ◌≡◌, refl, List, ◌∷◌, ◌++◌, length, get_or, take, drop, true, eqb}
+use Rattle.std.specs.Prelude.{ℕ, zero, suc, ◌+◌, ◌-◌, ◌*◌, ◌%◌, ◌^◌, ◌<◌, ◌≡◌, refl, List, ◌∷◌, ◌++◌, [], length, get_or, take, drop, true, eqb}
 use Rattle.std.proofs.Common.{sym, ap, ◌∙◌, length-drop, add-mul, mul_assoc, pow-suc, add_comm, mul_comm, mod-eq_of_lt, arith, eqb-true}
 use Rattle.std.proofs.Math.Seq.{split_at}
 use Rattle.std.proofs.Math.Decide.{dec_lt}

@@ -3,7 +3,7 @@ use Prim.Native.Nat.{ℕ, zero, suc, ◌<◌}
 use Rattle.std.specs.Prelude.{◌≡◌, ◌&&◌, length, eqb}
 use Rattle.std.proofs.Math.Path.{refl, ap}
 use Rattle.std.proofs.Common.{ap₂, subst, ◌∙◌, add-one, ltb-true, eqb-true, eq-eqb}
-use mathlib.Core.List.{List, ◌∷◌}
+use mathlib.Core.List.{List, ◌∷◌, []}
 use Rattle.std.proofs.Math.Bool.{true}
 use native.Mathlib.Omega.{arith}
 use Rattle.std.proofs.Math.Decide.{dec_lt}

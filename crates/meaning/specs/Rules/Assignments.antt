@@ -1,5 +1,5 @@
 -- Assignments (document 01, "Answers of a node", "Comparison and separation"): as bytes, and by number.
-use Rattle.std.specs.Prelude.{ℕ, zero, suc, ◌/◌, ◌%◌, ◌<◌, ◌≡◌, List, ◌∷◌, ◌++◌, Bool, true, false, cond, ◌&&◌, ◌||◌, length, get_or, leb, eqb}
+use Rattle.std.specs.Prelude.{ℕ, zero, suc, ◌/◌, ◌%◌, ◌<◌, ◌≡◌, List, [], ◌∷◌, ◌++◌, Bool, true, false, cond, ◌&&◌, ◌||◌, length, get_or, leb, eqb}
 use Rattle.meaning.specs.Rules.Limits.{variable_count}
 use Rattle.meaning.specs.Rules.Kinds.{variable_word}
 use Rattle.meaning.specs.Rules.Trees.{Tree, Forest, node, none, ◌◂◌}

@@ -1,5 +1,5 @@
 -- Folding, and the normal form of a tree (document 01, "Canonical list"; document 000, `fold_lut`).
-use Rattle.std.specs.Prelude.{ℕ, zero, suc, ◌-◌, List, ◌∷◌, ◌++◌, Bool, cond, length, take, drop, ltb, eqb}
+use Rattle.std.specs.Prelude.{ℕ, zero, suc, ◌-◌, List, [], ◌∷◌, ◌++◌, Bool, cond, length, take, drop, ltb, eqb}
 use Rattle.meaning.specs.Rules.Kinds.{Kind, Const, Program, DC, Var, Nor, Mux, And, Xor, Not, Lut, Bus, Reg, Arg, Cycle, Unknown, kind_of, const_word, program_word, lut_word}
 use Rattle.meaning.specs.Rules.Trees.{Tree, Forest, node, none, ◌◂◌, kind_word, datum, trees, forest_of, nth_tree}
 use Rattle.meaning.specs.Rules.Search.{lowest}

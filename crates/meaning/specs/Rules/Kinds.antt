@@ -1,5 +1,5 @@
 -- The kinds of node (document 01, "The node list").
-use Rattle.std.specs.Prelude.{ℕ, List, ◌∷◌, Bool, true, false, ◌&&◌, get_or, ltb, leb, eqb}
+use Rattle.std.specs.Prelude.{ℕ, List, [], ◌∷◌, Bool, true, false, ◌&&◌, get_or, ltb, leb, eqb}
 use Rattle.meaning.specs.Rules.Limits.{widest_bus}
 
 -- the four registers are one kind here; the kind WORD, which tells them apart, stays in the tree

@@ -1,6 +1,6 @@
 -- The list of a tree (document 01, "Canonical list"): "each distinct subtree below the root once, Programs included,
 -- children before parents, left to right, pool without gaps".
-use Rattle.std.specs.Prelude.{ℕ, ◌+◌, ◌/◌, ◌%◌, ◌^◌, List, ◌∷◌, ◌++◌, map, cond, length}
+use Rattle.std.specs.Prelude.{ℕ, ◌+◌, ◌/◌, ◌%◌, ◌^◌, List, [], ◌∷◌, ◌++◌, map, cond, length}
 use Rattle.meaning.specs.Rules.Kinds.{has_children}
 use Rattle.meaning.specs.Rules.Trees.{Tree, Forest, node, none, ◌◂◌, kind_word, datum, children, trees, same, node_of, nth_tree}
 use Rattle.meaning.specs.Rules.Search.{lowest}

@@ -1,5 +1,5 @@
 -- The evaluator's pairs (document 01, "Answers of a node": "Node by node, the evaluator writes state and value").
-use Rattle.std.specs.Prelude.{ℕ, zero, suc, ◌*◌, List, ◌∷◌, ◌++◌, cond, not, ◌&&◌, eqb}
+use Rattle.std.specs.Prelude.{ℕ, zero, suc, ◌*◌, List, [], ◌∷◌, ◌++◌, cond, not, ◌&&◌, eqb}
 use Rattle.meaning.specs.Rules.Kinds.{program_word}
 use Rattle.meaning.specs.Rules.Trees.{node_count, kind_at, tree_of}
 use Rattle.meaning.specs.Rules.Answers.{Assignment, answer, state_of, value_of}

@@ -1,6 +1,6 @@
 -- Which nodes count, and the Cycle nodes over them (document 01, "Verification": "Only nodes reachable from the root,
 -- itself included, count"; "the least number of Cycle nodes over it on any path from the root").
-use Rattle.std.specs.Prelude.{ℕ, zero, suc, ◌+◌, ◌-◌, ◌<◌, min, ◌≡◌, List, ◌∷◌, Bool, true, cond, ◌&&◌, get_or, ltb, eqb}
+use Rattle.std.specs.Prelude.{ℕ, zero, suc, ◌+◌, ◌-◌, ◌<◌, min, ◌≡◌, List, [], ◌∷◌, Bool, true, cond, ◌&&◌, get_or, ltb, eqb}
 use Rattle.meaning.specs.Rules.Kinds.{cycle_word}
 use Rattle.meaning.specs.Rules.Trees.{node_count, kind_at, children_at}
 use Rattle.meaning.specs.Rules.Refusals.{some}

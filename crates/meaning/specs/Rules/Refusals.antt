@@ -1,5 +1,5 @@
 -- A refusal, and the order of refusals (document 01, "Numbers a call answers with").
-use Rattle.std.specs.Prelude.{ℕ, List, ◌∷◌, Bool, true, false, cond, ◌&&◌, ◌||◌, ltb, eqb}
+use Rattle.std.specs.Prelude.{ℕ, List, [], ◌∷◌, Bool, true, false, cond, ◌&&◌, ◌||◌, ltb, eqb}
 use Rattle.meaning.specs.declared.Refusal.{Refusal}
 use Rattle.meaning.specs.Rules.Numbers.{done_number, not_aligned, over_limit, little_work}
 use Rattle.meaning.specs.Rules.Search.{lowest}

@@ -1,5 +1,5 @@
 -- Truth-table routines (document 01). A program over k operands has 2 ^ k rows; row i is bit i.
-use Rattle.std.specs.Prelude.{ℕ, zero, suc, ◌+◌, ◌-◌, ◌*◌, ◌/◌, ◌%◌, ◌^◌, List, ◌∷◌, ◌++◌, take, drop, reverse, Bool, true, cond, not, ◌&&◌, length, ltb, leb, eqb}
+use Rattle.std.specs.Prelude.{ℕ, zero, suc, ◌+◌, ◌-◌, ◌*◌, ◌/◌, ◌%◌, ◌^◌, List, [], ◌∷◌, ◌++◌, take, drop, reverse, Bool, true, cond, not, ◌&&◌, length, ltb, leb, eqb}
 use Rattle.meaning.specs.declared.LutBit.{LutBit}
 use Rattle.meaning.specs.declared.LutBit.TheVariants as lut_bit
 use Rattle.meaning.specs.declared.BitVector.{BitVector}

@@ -1,5 +1,5 @@
 -- A node list and the tree at each of its nodes (document 01, "The node list").
-use Rattle.std.specs.Prelude.{ℕ, zero, suc, ◌+◌, ◌-◌, ◌*◌, ◌/◌, ◌^◌, List, ◌∷◌, ◌++◌, Bool, true, false, cond, ◌&&◌, length, get_or, take, drop, replicate, eqb}
+use Rattle.std.specs.Prelude.{ℕ, zero, suc, ◌+◌, ◌-◌, ◌*◌, ◌/◌, ◌^◌, List, [], ◌∷◌, ◌++◌, Bool, true, false, cond, ◌&&◌, length, get_or, take, drop, replicate, eqb}
 use Rattle.meaning.specs.Rules.Limits.{words_per_node}
 use Rattle.meaning.specs.Rules.Kinds.{program_word, cycle_word, has_children}
 

@@ -1,5 +1,5 @@
 -- The verdict (document 002, check.rs): its questions, its decision and its name.
-use Rattle.std.specs.Prelude.{ℕ, List, ◌∷◌, Bool, true, false, not, length, leb}
+use Rattle.std.specs.Prelude.{ℕ, List, [], ◌∷◌, Bool, true, false, not, length, leb}
 use Rattle.meaning.specs.declared.Check.{Check}
 use Rattle.meaning.specs.declared.Check.TheVariants.{Equiv, NotEquiv, Inconclusive}
 use Rattle.meaning.specs.declared.Decision.{Decision}

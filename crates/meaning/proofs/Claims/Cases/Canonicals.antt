@@ -1,5 +1,5 @@
 -- Cases of Rules/Folding, Rules/Listing, Rules/Canonical: the canonical list, numbers 14 and 19.
-use Rattle.std.specs.Prelude.{ℕ, ◌+◌, ◌*◌, ◌^◌, ◌-◌, refl, List, ◌∷◌, ◌++◌}
+use Rattle.std.specs.Prelude.{ℕ, ◌+◌, ◌*◌, ◌^◌, ◌-◌, refl, List, [], ◌∷◌, ◌++◌}
 use Rattle.meaning.specs.Rules.Limits.{words_per_node}
 use Rattle.meaning.specs.Rules.Trees.{Tree, node, none, ◌◂◌, node_of, trees_of, tree_of, root_of, datum_at, children_at}
 use Rattle.meaning.specs.Rules.Search.{lowest}

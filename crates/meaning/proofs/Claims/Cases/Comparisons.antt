@@ -1,5 +1,5 @@
 -- Cases of Rules/Comparison: the verdict, and number 9.
-use Rattle.std.specs.Prelude.{ℕ, zero, suc, ◌*◌, ◌-◌, refl, List, ◌∷◌}
+use Rattle.std.specs.Prelude.{ℕ, zero, suc, ◌*◌, ◌-◌, refl, List, [], ◌∷◌}
 use Rattle.meaning.specs.declared.Check.TheVariants.{Equiv, NotEquiv, Inconclusive}
 use Rattle.meaning.specs.Rules.Limits.{work_per_node}
 use Rattle.meaning.specs.Rules.Trees.{Tree, node_of, trees_of, tree_of, root_of, datum_at, children_at}

@@ -1,5 +1,5 @@
 -- Cases of Rules/Answers, Rules/Assignments: the answers of a node, and number 12.
-use Rattle.std.specs.Prelude.{ℕ, suc, ◌^◌, refl, List, ◌∷◌, replicate}
+use Rattle.std.specs.Prelude.{ℕ, suc, ◌^◌, refl, List, [], ◌∷◌, replicate}
 use Rattle.meaning.specs.declared.Failure.TheVariants.{Undriven, DontCare, Register, Argument}
 use Rattle.meaning.specs.declared.Answer.TheVariants.{Value, Failed}
 use Rattle.meaning.specs.Rules.Limits.{variable_count}

@@ -1,5 +1,5 @@
 -- Cases of Rules/Kinds, Rules/Layout: numbers 1 to 5 and 10.
-use Rattle.std.specs.Prelude.{ℕ, suc, ◌+◌, ◌*◌, ◌-◌, refl, List, ◌∷◌, ◌++◌, replicate}
+use Rattle.std.specs.Prelude.{ℕ, suc, ◌+◌, ◌*◌, ◌-◌, refl, List, [], ◌∷◌, ◌++◌, replicate}
 use Rattle.meaning.specs.Rules.Limits.{words_per_node, most_nodes, most_pool, work_per_node, work_per_pool, variable_count}
 use Rattle.meaning.specs.Rules.Trees.{node_of, trees_of, tree_of, datum_at, children_at}
 use Rattle.meaning.specs.Rules.Search.{lowest}

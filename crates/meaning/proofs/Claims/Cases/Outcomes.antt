@@ -1,5 +1,5 @@
 -- Cases of Rules/Calls: whole outcomes, lent slices included.
-use Rattle.std.specs.Prelude.{ℕ, suc, ◌+◌, ◌*◌, ◌-◌, ◌≡◌, refl, List, ◌∷◌, ◌++◌, map, cond, not, replicate, length, eqb}
+use Rattle.std.specs.Prelude.{ℕ, suc, ◌+◌, ◌*◌, ◌-◌, ◌≡◌, refl, List, [], ◌∷◌, ◌++◌, map, cond, not, replicate, length, eqb}
 use Rattle.meaning.specs.Rules.Lent.{cleared}
 use Rattle.meaning.specs.declared.Answer.{Answer}
 use Rattle.meaning.specs.Rules.Limits.{most_pool, work_per_node, work_per_pool, words_per_node}

@@ -1,5 +1,5 @@
 -- Cases of Rules/Separation: the judgement, and number 11.
-use Rattle.std.specs.Prelude.{refl, List, ◌∷◌, ◌++◌}
+use Rattle.std.specs.Prelude.{refl, List, [], ◌∷◌, ◌++◌}
 use Rattle.meaning.specs.declared.Judgement.TheVariants.{Separate, Crossing}
 use Rattle.meaning.specs.Rules.Trees.{node_of, trees_of, tree_of, root_of, datum_at, children_at}
 use Rattle.meaning.specs.Rules.Search.{lowest}

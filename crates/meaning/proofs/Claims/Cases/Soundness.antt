@@ -1,5 +1,5 @@
 -- Cases of Rules/Evaluable: numbers 7 and 8.
-use Rattle.std.specs.Prelude.{refl, List, ◌∷◌, ◌++◌, map}
+use Rattle.std.specs.Prelude.{refl, List, [], ◌∷◌, ◌++◌, map}
 use Rattle.meaning.specs.Rules.Trees.{Tree, node_of, trees_of, tree_of, root_of, datum_at, children_at}
 use Rattle.meaning.specs.Rules.Search.{lowest}
 use Rattle.meaning.specs.Rules.Refusals.{at_lowest}

@@ -1,5 +1,5 @@
 -- Cases of Rules/Tables: number 13, and the routines.
-use Rattle.std.specs.Prelude.{◌+◌, ◌^◌, refl, List, ◌∷◌, Bool, replicate}
+use Rattle.std.specs.Prelude.{◌+◌, ◌^◌, refl, List, [], ◌∷◌, Bool, replicate}
 use Rattle.std.proofs.Math.Bool as Bool
 use Rattle.meaning.specs.declared.LutBit.TheVariants as lut_bit
 use Rattle.meaning.specs.declared.BitVector.TheVariants as bit_vector

@@ -1,5 +1,5 @@
 -- Cases of Rules/Verdict, and the numbers that stand for answers.
-use Rattle.std.specs.Prelude.{ℕ, refl, List, ◌∷◌, map, Bool, replicate}
+use Rattle.std.specs.Prelude.{ℕ, refl, List, [], ◌∷◌, map, Bool, replicate}
 use Rattle.std.proofs.Math.Bool as Bool
 use Rattle.meaning.specs.declared.Failure.TheVariants.{Undriven, DontCare, Register, Argument}
 use Rattle.meaning.specs.declared.Answer.{Answer}

@@ -1,5 +1,5 @@
 -- Cases of Rules/Reach, Rules/Verification: number 6.
-use Rattle.std.specs.Prelude.{ℕ, ◌+◌, refl, List, ◌∷◌, ◌++◌, replicate}
+use Rattle.std.specs.Prelude.{ℕ, ◌+◌, refl, List, [], ◌∷◌, ◌++◌, replicate}
 use Rattle.meaning.specs.Rules.Trees.{Tree, node, none, ◌◂◌, node_of, trees_of, tree_of, root_of, datum_at, children_at}
 use Rattle.meaning.specs.Rules.Search.{lowest}
 use Rattle.meaning.specs.Rules.Refusals.{at_lowest}

@@ -1,5 +1,5 @@
 -- Cases of Rules/PathByPath: 000's verifier, yes or no.
-use Rattle.std.specs.Prelude.{refl, List, ◌∷◌, ◌++◌, true, false}
+use Rattle.std.specs.Prelude.{refl, List, [], ◌∷◌, ◌++◌, true, false}
 use Rattle.meaning.specs.Rules.Trees.{Tree, node_of, trees_of, tree_of, root_of, datum_at, children_at}
 use Rattle.meaning.specs.Rules.Search.{lowest}
 use Rattle.meaning.specs.Rules.PathByPath.{verify_expr}
