@@ -3,7 +3,7 @@
 -- operand has an answer.
 use Rattle.std.specs.Prelude.{ℕ, zero, suc, ◌^◌, ◌≤◌, ◌<◌, ◌≡◌, refl, ◌≢◌, ◌⊎◌, List, [], ◌∷◌, Bool, true, false, cond, not, ◌&&◌, ◌||◌, length, drop, ltb, leb, eqb}
 use Rattle.std.proofs.Math.Path.{sym}
-use Rattle.std.proofs.Common.{subst, ◌∙◌, ⊎_elim, arith, eqb-true, ltb-true, ltb-false, lt-ltb, leb-true}
+use Rattle.std.proofs.Common.{subst, ◌∙◌, ⊎_elim, arith, eqb-true, ltb-false, lt-ltb, leb-true}
 use Rattle.std.proofs.Math.ListN.{get_or}
 use Rattle.meaning.specs.declared.Failure.{Failure}
 use Rattle.meaning.specs.declared.Answer.{Answer}
@@ -22,7 +22,7 @@ use Rattle.meaning.specs.Laws.RootLaws.{forest_length}
 use Rattle.meaning.specs.Laws.TestLaws.{every_nth}
 use Rattle.lists.specs.Cases.{past}
 use Rattle.operators.specs.Widths.{Held, Alike, held}
-use Rattle.accepted.specs.Nodes.{Logic, child_trees, answers_at, shapes_at, shapes_length, answers_length, nth_shape_lem, nth_answer, tree_is, answer_is, arity, child_below, child_marked, logic_kind, not_wrong, fitting}
+use Rattle.accepted.specs.Nodes.{Logic, child_trees, answers_at, shapes_at, shapes_length, answers_length, nth_answer, tree_is, answer_is, arity, child_below, child_marked, not_wrong, fitting}
 use Rattle.accepted.specs.AnswerWidths.{Fine, bit_code, alike_pair, both_fine, children_fine, sizes, shapes_arity, fine_at}
 
 -- ---- does a node of this kind read child i as an operand? A register and an Arg read none, a Lut's first is its program

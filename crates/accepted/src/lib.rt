@@ -3,6 +3,8 @@
 // node's shape, in specs/AnswerWidths; what is asked at each kind, in specs/Operands. All functions here are inner:
 // their callers have the list accepted (Claims/Column, `Sound`) and ask of nodes that have an answer (`Logic`:
 // reachable, and no Program).
+#![tactic(auto)]
+
 ghost use Rattle.std.specs.Prelude.{◌≡◌, List, ◌≢◌, ◌<◌, ◌≤◌, get_or};
 ghost use Rattle.meaning.specs.declared.Answer.{Answer};
 ghost use Rattle.meaning.specs.Rules.Kinds.{kind_of, program_word, variable_word, lut_word};

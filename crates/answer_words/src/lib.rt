@@ -1,5 +1,7 @@
 // An answer as three words (document 01, "Answers of a node": "a width with a value, or a failure: 1 undriven, 2 DC,
 // 3 register, 4 ARG"): what recorded cases are compared by.
+#![tactic(auto)]
+
 ghost use Rattle.std.specs.Prelude.{◌≡◌, ◌&&◌, eqb};
 ghost use Rattle.meaning.specs.Rules.Answers.{failure_number};
 ghost use Rattle.answer_words.specs.Said.{said};

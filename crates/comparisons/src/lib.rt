@@ -1,6 +1,8 @@
 // What two answers decide, and the results of a comparison (document 01, "Comparison and separation"; 000,
 // `func_equiv`). The plain meaning is meaning's Rules/Comparison, and each call's contract is an equation with the
 // definition of its name there. The crate `comparer` makes these calls; a user reads their fields.
+#![tactic(auto)]
+
 ghost use Rattle.std.specs.Prelude.{◌≡◌};
 ghost use Rattle.meaning.specs.Rules.Answers as answers;
 ghost use Rattle.meaning.specs.Rules.Comparison as rule;

@@ -3,6 +3,8 @@
 // tree at a node, and the contract of `eval_rec` is that equation. The node number falls at each call. It walks a
 // shared graph as a tree, so it is kept as the reference and is no entry point: a user calls `evaluator::eval`, whose
 // pass (the crate `pass`) writes the same answers (specs/Same there).
+#![tactic(auto)]
+
 ghost use Rattle.std.specs.Prelude.{◌≡◌};
 ghost use Rattle.meaning.specs.Rules.Kinds.{mux_word, lut_word, bus_word};
 ghost use Rattle.meaning.specs.Rules.Trees.{kind_at, tree_of};

@@ -1,5 +1,7 @@
 // A result with two answers as ten words (include/panel.h): what a comparison and a separation have in common. The
 // plain meaning is specs/Words, `result_words`.
+#![tactic(auto)]
+
 ghost use Rattle.std.specs.Prelude.{◌≡◌};
 ghost use Rattle.result_words.specs.Words.{result_words};
 

@@ -2,6 +2,8 @@
 // plain meaning is meaning's Rules/Separation and, of two answers, `same_answer` of Rules/Comparison; each call's
 // contract is an equation with the definition of its name there. The crate `separator` makes these calls; a user reads
 // their fields.
+#![tactic(auto)]
+
 ghost use Rattle.std.specs.Prelude.{◌≡◌};
 ghost use Rattle.meaning.specs.Rules.Comparison.{same_answer};
 ghost use Rattle.meaning.specs.Rules.Separation as rule;

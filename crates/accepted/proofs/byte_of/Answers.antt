@@ -2,7 +2,6 @@
 use Rattle.accepted.specs.Bytes.{given_inside}
 use lib.ListN.{get_or-eq_default}
 use mathlib.Core.Path.{sym}
-use borrow.Author.Rules.{rules}
 use Rattle.accepted.proofs.byte_of.Goals as goal
 
 pub returns-then-variable-bytes : goal.returns-then-variable-bytes

@@ -5,7 +5,6 @@ use Rattle.meaning.specs.Rules.Trees.{kind_at, first_at, datum_at}
 use Rattle.meaning.specs.declared.Answer.TheVariants.{Value}
 use mathlib.Core.List.{List}
 use Prim.Native.Nat.{ℕ}
-use borrow.Author.Rules.{rules}
 use native.Mathlib.Omega.{arith}
 use mathlib.Core.Path.{◌≡◌, sym, ap, ◌∙◌}
 use Rattle.accepted.proofs.leaf_of.Goals as goal

@@ -4,11 +4,10 @@ use Rattle.lists.specs.Laid.{part_fits}
 use lib.ListN.{length}
 use Prim.Native.Nat.{◌<◌}
 use native.Mathlib.Omega.{arith}
-use borrow.Author.Rules.{rules}
 use Rattle.accepted.proofs.operand.Goals as goal
 
 pub children_of-children-requires : goal.children_of-children-requires
-children_of-children-requires c = 
+children_of-children-requires c =
     record {
       i_bound = c.requires.logic.inside;
       part_fits = part_fits c.args.nodes.now c.args.pool.now c.args.n (c.requires.sound.0 c.args.n c.requires.logic.inside);

@@ -5,11 +5,10 @@ use Rattle.meaning.specs.Rules.Trees.{node_count, children_at, datum_at}
 use lib.ListN.{get_or}
 use Prim.Native.Nat.{◌<◌}
 use mathlib.Core.Path.{◌≡◌, ap, ◌∙◌}
-use borrow.Author.Rules.{rules}
 use Rattle.accepted.proofs.program_of.Goals as goal
 
 pub children_of-children-requires : goal.children_of-children-requires
-children_of-children-requires c = 
+children_of-children-requires c =
     record {
       i_bound = c.requires.logic.inside;
       part_fits = part_fits c.args.nodes.now c.args.pool.now c.args.n (c.requires.sound.0 c.args.n c.requires.logic.inside);

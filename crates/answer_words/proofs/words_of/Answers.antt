@@ -1,5 +1,4 @@
 -- `words_of` meets its contract, for a value and for a failure.
-use borrow.Author.Rules.{rules}
 use Rattle.answer_words.proofs.words_of.Goals as goal
 
 pub returns-in-Value : goal.returns-in-Value

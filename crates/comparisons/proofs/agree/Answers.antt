@@ -1,6 +1,5 @@
 -- `agree` meets its contract: a first answer without a value agrees with none.
 use mathlib.Core.Path.{refl, ◌∙◌}
-use borrow.Author.Rules.{rules}
 use Rattle.comparisons.proofs.agree.Goals as goal
 
 pub returns : goal.returns

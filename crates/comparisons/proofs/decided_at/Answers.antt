@@ -2,7 +2,6 @@
 use mathlib.Core.Path.{ap}
 use Rattle.meaning.specs.Rules.Refusals.{done}
 use Rattle.meaning.specs.declared.Check.{Check}
-use borrow.Author.Rules.{rules}
 use Rattle.comparisons.proofs.decided_at.Goals as goal
 
 pub returns : goal.returns

@@ -3,7 +3,6 @@ use mathlib.Core.Path.{ap₂}
 use Rattle.meaning.specs.Rules.Refusals.{done}
 use Rattle.meaning.specs.declared.Check.TheVariants.{Equiv}
 use Rattle.meaning.specs.declared.Answer.{Answer}
-use borrow.Author.Rules.{rules}
 use Rattle.comparisons.proofs.equivalent.Goals as goal
 
 pub returns : goal.returns

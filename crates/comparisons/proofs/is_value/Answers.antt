@@ -1,7 +1,6 @@
 -- `is_value` meets its contract: two values are compared by width, then by value.
 use mathlib.Core.Path.{refl}
 use borrow.Author.Tests.{eq-eqb, ne_eqb}
-use borrow.Author.Rules.{rules}
 use Rattle.comparisons.proofs.is_value.Goals as goal
 
 pub returns-then-width-w : goal.returns-then-width-w

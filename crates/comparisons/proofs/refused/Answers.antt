@@ -2,7 +2,6 @@
 use mathlib.Core.Path.{ap₂}
 use Rattle.meaning.specs.declared.Check.TheVariants.{Inconclusive}
 use Rattle.meaning.specs.declared.Answer.{Answer}
-use borrow.Author.Rules.{rules}
 use Rattle.comparisons.proofs.refused.Goals as goal
 
 pub returns : goal.returns

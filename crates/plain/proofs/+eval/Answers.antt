@@ -1,11 +1,11 @@
 -- `eval_rec` and the four functions beside it meet their contracts: each descends to a lower number, and each arm is its clause
 -- of `step`.
-use Rattle.std.proofs.Common.{◌≡◌, refl, sym, ap, ◌∙◌, ℕ, ◌+◌, ◌*◌, ◌<◌, ◌≤◌, length, arith, lt-ltb}
+use Rattle.std.proofs.Common.{◌≡◌, refl, sym, ap, ◌∙◌, ℕ, ◌<◌, length, arith, lt-ltb}
 use mathlib.Core.Path.{ap₂}
 use mathlib.Core.Logic.{inl, inr}
 use Rattle.meaning.specs.Rules.Kinds.{Kind, kind_of}
-use Rattle.meaning.specs.Rules.Trees.{children_at, kind_at, datum_at, tree_of}
-use Rattle.meaning.specs.Rules.Answers.{nth, value_of, step, and_of, nor_of, xor_of, not_of, mux_of, answer}
+use Rattle.meaning.specs.Rules.Trees.{children_at, kind_at, datum_at}
+use Rattle.meaning.specs.Rules.Answers.{nth, value_of, step, and_of, nor_of, xor_of, not_of, mux_of}
 use Rattle.meaning.specs.Rules.Assignments.{given}
 use Rattle.meaning.specs.declared.Answer.{Answer}
 use Rattle.operators.specs.Folds.{row_start, row_more, row_fails, row_done, row_lt, bus_start, bus_more, bus_done}

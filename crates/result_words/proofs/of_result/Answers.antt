@@ -1,6 +1,5 @@
 -- `of_result` meets its contract: each word is that of its argument.
 use mathlib.Core.Path.{refl}
-use borrow.Author.Rules.{rules}
 use Rattle.result_words.proofs.of_result.Goals as goal
 
 pub returns : goal.returns

@@ -3,11 +3,6 @@ use Rattle.separations.specs.Same.{same_words}
 use Rattle.answer_words.specs.Said.{said}
 use Rattle.meaning.specs.declared.Answer.{Answer}
 use mathlib.Core.Path.{◌≡◌, ◌∙◌}
-use borrow.Author.Rules.{rules}
-use Rattle.separations.proofs.same_answer.Reads as reads
-use Rattle.separations.proofs.same_answer.Lts as lts
-use Rattle.answer_words.proofs.same.Reads as same_Reads
-use Rattle.answer_words.proofs.words_of.Reads as words-of-reads
 use Rattle.separations.proofs.same_answer.Goals as goal
 
 pub returns : goal.returns
