@@ -1,6 +1,8 @@
 // A node's row of the work space as an answer (document 01, "Answers of a node": "0 and the value (its width is the
 // node's shape), 1 to 4 for a failure and 0"). The plain meaning is specs/Rows, `from_row`; there too stand what the
 // rows hold before the pass (`Prepared`) and while it goes (`Filled`).
+#![tactic(auto)]
+
 ghost use Rattle.std.specs.Prelude.{◌≡◌, ◌+◌, ◌*◌, ◌≤◌, length};
 ghost use Rattle.meaning.specs.Rules.Limits.{work_per_node};
 ghost use Rattle.meaning.specs.Rules.Evaluable.{Shape, shape_code, width_of};

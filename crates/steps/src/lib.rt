@@ -1,6 +1,8 @@
 // A node's answer from its children's rows, as the pass takes it: the arms of the plain evaluator, with a row in
 // place of each descent. The plain meaning is meaning's Rules/Answers, `answer` of the tree at the node; the pass
 // calls `answer_of` once for each node, in number order, and its contract is that equation.
+#![tactic(auto)]
+
 ghost use Rattle.std.specs.Prelude.{◌≡◌};
 ghost use Rattle.meaning.specs.Rules.Kinds.{mux_word, lut_word, bus_word};
 ghost use Rattle.meaning.specs.Rules.Trees.{kind_at, tree_of};

@@ -2,7 +2,6 @@
 use Rattle.meaning.specs.declared.Answer.TheVariants.{Value, Failed}
 use borrow.Author.Tests.{eq-eqb, ne_eqb}
 use mathlib.Core.Path.{sym, ap, ap₂, ◌∙◌}
-use borrow.Author.Rules.{rules}
 use Rattle.rows.proofs.answer_at.Goals as goal
 
 pub returns-then-state-ne0 : goal.returns-then-state-ne0

@@ -7,14 +7,12 @@ use Rattle.meaning.specs.Rules.Assignments.{given}
 use Rattle.meaning.specs.Rules.Answers.{step, and_of, nor_of, xor_of, not_of}
 use Rattle.meaning.specs.Rules.Trees.{kind_at, datum_at}
 use lib.Dec.{lit<}
-use Prim.Native.Nat.{◌<◌, ◌-◌}
-use borrow.Author.Rules.{rules}
 use native.Mathlib.Omega.{arith}
 use mathlib.Core.Path.{◌≡◌, refl, sym, ap, ap₂, ◌∙◌}
 use Rattle.steps.proofs.answer_of.Goals as goal
 
 pub operand_answer-x-requires : goal.operand_answer-x-requires
-operand_answer-x-requires c = 
+operand_answer-x-requires c =
     record {
       filled = c.requires.filled;
       logic = c.requires.logic;
@@ -22,7 +20,7 @@ operand_answer-x-requires c =
     }
 
 pub operand_answer-y-requires : goal.operand_answer-y-requires
-operand_answer-y-requires c = 
+operand_answer-y-requires c =
     record {
       filled = c.requires.filled;
       logic = c.requires.logic;
@@ -33,7 +31,7 @@ pub nor_of-requires : goal.nor_of-requires
 nor_of-requires c = rw (c.operand_answer-x.ensures, c.operand_answer-y.ensures) (nor_operands c.args.nodes.now c.args.pool.now c.requires.filled.ready.sound c.args.n c.requires.logic (given c.args.bytes.now) (rw (sym c.kind_of-kind.ensures ∙ c.in-4.is)))
 
 pub mux_at-requires : goal.mux_at-requires
-mux_at-requires c = 
+mux_at-requires c =
     record {
       filled = c.requires.filled;
       logic = c.requires.logic;
@@ -41,7 +39,7 @@ mux_at-requires c =
     }
 
 pub operand_answer-x-requires-in-6 : goal.operand_answer-x-requires-in-6
-operand_answer-x-requires-in-6 c = 
+operand_answer-x-requires-in-6 c =
     record {
       filled = c.requires.filled;
       logic = c.requires.logic;
@@ -49,7 +47,7 @@ operand_answer-x-requires-in-6 c =
     }
 
 pub operand_answer-y-requires-in-6 : goal.operand_answer-y-requires-in-6
-operand_answer-y-requires-in-6 c = 
+operand_answer-y-requires-in-6 c =
     record {
       filled = c.requires.filled;
       logic = c.requires.logic;
@@ -57,7 +55,7 @@ operand_answer-y-requires-in-6 c =
     }
 
 pub operand_answer-x-requires-in-7 : goal.operand_answer-x-requires-in-7
-operand_answer-x-requires-in-7 c = 
+operand_answer-x-requires-in-7 c =
     record {
       filled = c.requires.filled;
       logic = c.requires.logic;
@@ -65,7 +63,7 @@ operand_answer-x-requires-in-7 c =
     }
 
 pub operand_answer-y-requires-in-7 : goal.operand_answer-y-requires-in-7
-operand_answer-y-requires-in-7 c = 
+operand_answer-y-requires-in-7 c =
     record {
       filled = c.requires.filled;
       logic = c.requires.logic;
@@ -73,7 +71,7 @@ operand_answer-y-requires-in-7 c =
     }
 
 pub operand_answer-requires : goal.operand_answer-requires
-operand_answer-requires c = 
+operand_answer-requires c =
     record {
       filled = c.requires.filled;
       logic = c.requires.logic;
@@ -84,7 +82,7 @@ pub not_of-requires : goal.not_of-requires
 not_of-requires c = rw c.operand_answer.ensures (held_operand c.args.nodes.now c.args.pool.now c.requires.filled.ready.sound c.args.n c.requires.logic (given c.args.bytes.now) 0 (fixed c.args.nodes.now c.args.pool.now c.requires.filled.ready.sound c.args.n c.requires.logic.inside 8 1 0 (sym c.kind_of-kind.ensures ∙ c.in-8.is) (λ c. refl) refl (lit< tt)))
 
 pub lut_at-requires : goal.lut_at-requires
-lut_at-requires c = 
+lut_at-requires c =
     record {
       filled = c.requires.filled;
       logic = c.requires.logic;
@@ -92,7 +90,7 @@ lut_at-requires c =
     }
 
 pub bus_at-requires : goal.bus_at-requires
-bus_at-requires c = 
+bus_at-requires c =
     record {
       filled = c.requires.filled;
       logic = c.requires.logic;
@@ -100,7 +98,7 @@ bus_at-requires c =
     }
 
 pub leaf_of-requires : goal.leaf_of-requires
-leaf_of-requires c = 
+leaf_of-requires c =
     record {
       n_bound = c.requires.logic.inside;
       n_bound_2 = omega (arith, c.kind_of-kind.ensures);

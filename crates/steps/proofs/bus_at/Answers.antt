@@ -1,16 +1,11 @@
 -- `bus_at` meets its contract: the loop has folded the members before it (`BusTo`).
 use Rattle.accepted.specs.Operands.{bus_takes, bus_size, answers_size, bus_member}
 use Rattle.accepted.specs.Nodes.{answers_at, answer_is, children_length}
-use Rattle.operators.specs.Folds.{BusTo, bus_start, bus_more, bus_done}
+use Rattle.operators.specs.Folds.{bus_start, bus_more, bus_done}
 use Rattle.operators.specs.Widths.{held_more}
 use Rattle.meaning.specs.Rules.Assignments.{given}
-use Rattle.meaning.specs.Rules.Answers.{step}
-use Rattle.meaning.specs.Rules.Trees.{children_at}
-use lib.ListN.{length}
-use Prim.Native.Nat.{◌≤◌, ◌-◌}
-use borrow.Author.Rules.{rules}
 use native.Mathlib.Omega.{arith}
-use mathlib.Core.Path.{◌≡◌, sym, ◌∙◌}
+use mathlib.Core.Path.{sym, ◌∙◌}
 use Rattle.steps.proofs.bus_at.Goals as goal
 
 pub count_of-count-requires : goal.count_of-count-requires
@@ -20,7 +15,7 @@ pub loop-i-init : goal.loop-i-init
 loop-i-init c = (omega arith, c.count_of-count.ensures.0 ∙ sym (children_length c.args.nodes.now c.args.pool.now c.requires.filled.ready.sound c.args.n c.requires.logic.inside (omega (arith, c.requires.n_value))), bus_start (answers_at c.args.nodes.now c.args.pool.now (given c.args.bytes.now) c.args.n))
 
 pub operand_answer-x-requires : goal.operand_answer-x-requires
-operand_answer-x-requires c = 
+operand_answer-x-requires c =
     record {
       filled = c.requires.filled;
       logic = c.requires.logic;
@@ -28,7 +23,7 @@ operand_answer-x-requires c =
     }
 
 pub bus_step-bus-requires : goal.bus_step-bus-requires
-bus_step-bus-requires c = 
+bus_step-bus-requires c =
     record {
       held = held_more c.loop-i.i 63 c.loop-i.bus (omega (arith, c.loop-i.invariant.1, bus_size c.args.nodes.now c.args.pool.now c.requires.filled.ready.sound c.args.n c.requires.logic.inside c.requires.n_value)) c.loop-i.invariant.2.narrow;
       held_2 = rw c.operand_answer-x.ensures (bus_member c.args.nodes.now c.args.pool.now c.requires.filled.ready.sound c.args.n c.requires.logic (given c.args.bytes.now) c.loop-i.i c.requires.n_value (omega (arith, c.loop-i.invariant.1)));

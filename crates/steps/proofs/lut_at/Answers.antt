@@ -2,16 +2,12 @@
 use Rattle.accepted.proofs.Operands.{lut_takes}
 use Rattle.accepted.specs.Operands.{answers_size, lut_operand, lut_children, lut_program}
 use Rattle.accepted.specs.Nodes.{answers_at, answer_is, children_length}
-use Rattle.operators.specs.Folds.{RowTo, row_start, row_more, row_fails, row_done, row_lt}
+use Rattle.operators.specs.Folds.{row_start, row_more, row_fails, row_done, row_lt}
 use Rattle.operators.specs.Widths.{held_lt}
 use Rattle.meaning.specs.Rules.Assignments.{given}
-use Rattle.meaning.specs.Rules.Answers.{nth, value_of, step}
-use Rattle.meaning.specs.Rules.Trees.{children_at}
-use lib.ListN.{length}
-use Prim.Native.Nat.{◌<◌, ◌≤◌, ◌-◌}
-use borrow.Author.Rules.{rules}
+use Rattle.meaning.specs.Rules.Answers.{nth, value_of}
 use native.Mathlib.Omega.{arith}
-use mathlib.Core.Path.{◌≡◌, sym, ◌∙◌}
+use mathlib.Core.Path.{sym, ◌∙◌}
 use Rattle.steps.proofs.lut_at.Goals as goal
 
 pub count_of-count-requires : goal.count_of-count-requires
@@ -21,7 +17,7 @@ pub loop-i-init : goal.loop-i-init
 loop-i-init c = let e = c.count_of-count.ensures.0 ∙ sym (children_length c.args.nodes.now c.args.pool.now c.requires.filled.ready.sound c.args.n c.requires.logic.inside (omega (arith, c.requires.n_value))) in (omega arith, omega (arith, e, (lut_children c.args.nodes.now c.args.pool.now c.requires.filled.ready.sound c.args.n c.requires.logic c.requires.n_value).some), e, row_start (answers_at c.args.nodes.now c.args.pool.now (given c.args.bytes.now) c.args.n))
 
 pub operand_answer-x-requires : goal.operand_answer-x-requires
-operand_answer-x-requires c = 
+operand_answer-x-requires c =
     record {
       filled = c.requires.filled;
       logic = c.requires.logic;
@@ -48,7 +44,7 @@ loop-i-preserved c =
     (omega arith, omega arith, c.loop-i.invariant.2, row_more (answers_at c.args.nodes.now c.args.pool.now α c.args.n) c.loop-i.i c.loop-i.row _ _ c.operand_answer-x.result (omega (arith, c.loop-i.invariant.0)) (rw (answers_size c.args.nodes.now c.args.pool.now c.requires.filled.ready.sound c.args.n α) (omega (arith, c.loop-i.invariant.2))) c.loop-i.invariant.3 c.operand_answer-x.ensures (rw c.operand_answer-x.ensures (lut_operand c.args.nodes.now c.args.pool.now c.requires.filled.ready.sound c.args.n c.requires.logic α c.loop-i.i c.requires.n_value c.loop-i.invariant.0 (omega (arith, c.loop-i.invariant.2)))) c.in-Value.is)
 
 pub program_of-requires : goal.program_of-requires
-program_of-requires c = 
+program_of-requires c =
     record {
       sound = c.requires.filled.ready.sound;
       logic = c.requires.logic;

@@ -3,16 +3,14 @@ use borrow.Author.Tests.{lt-ltb}
 use Rattle.accepted.specs.Operands.{fixed, mux_failed, mux_arm, arm_lt}
 use Rattle.accepted.specs.Nodes.{answers_at, answer_is}
 use Rattle.meaning.specs.Rules.Assignments.{given}
-use Rattle.meaning.specs.Rules.Answers.{nth, step, mux_of}
+use Rattle.meaning.specs.Rules.Answers.{nth, mux_of}
 use Rattle.meaning.specs.declared.Answer.{Answer}
 use lib.Dec.{lit<}
-use Prim.Native.Nat.{◌<◌, ◌-◌}
-use borrow.Author.Rules.{rules}
 use mathlib.Core.Path.{refl, sym, ap, ◌∙◌}
 use Rattle.steps.proofs.mux_at.Goals as goal
 
 pub operand_answer-selector-requires : goal.operand_answer-selector-requires
-operand_answer-selector-requires c = 
+operand_answer-selector-requires c =
     record {
       filled = c.requires.filled;
       logic = c.requires.logic;

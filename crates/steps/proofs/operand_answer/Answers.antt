@@ -5,11 +5,10 @@ use Rattle.meaning.specs.Rules.Trees.{tree_of}
 use Rattle.meaning.specs.Rules.Assignments.{given}
 use native.Mathlib.Omega.{arith}
 use mathlib.Core.Path.{◌∙◌}
-use borrow.Author.Rules.{rules}
 use Rattle.steps.proofs.operand_answer.Goals as goal
 
 pub operand-requires : goal.operand-requires
-operand-requires c = 
+operand-requires c =
     record {
       sound = c.requires.filled.ready.sound;
       logic = c.requires.logic;
@@ -17,7 +16,7 @@ operand-requires c =
     }
 
 pub answer_at-requires : goal.answer_at-requires
-answer_at-requires c = 
+answer_at-requires c =
     record {
       row_in_bounds = omega (arith, c.requires.filled.ready.room, c.operand.ensures.logic.inside);
       wide = row_wide c.args.nodes.now c.args.pool.now (given c.args.bytes.now) c.args.base c.args.work.now c.args.n c.requires.filled c.operand.result c.operand.ensures.below c.operand.ensures.logic c.operand.ensures.shaped;
