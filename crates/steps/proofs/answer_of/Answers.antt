@@ -7,7 +7,6 @@ use Rattle.meaning.specs.Rules.Assignments.{given}
 use Rattle.meaning.specs.Rules.Answers.{step, and_of, nor_of, xor_of, not_of}
 use Rattle.meaning.specs.Rules.Trees.{kind_at, datum_at}
 use lib.Dec.{lit<}
-use Prim.Native.Nat.{◌<◌, ◌-◌}
 use native.Mathlib.Omega.{arith}
 use mathlib.Core.Path.{◌≡◌, refl, sym, ap, ap₂, ◌∙◌}
 use Rattle.steps.proofs.answer_of.Goals as goal

@@ -4,7 +4,6 @@ use Rattle.accepted.specs.Nodes.{answers_at, answer_is, children_length}
 use Rattle.operators.specs.Folds.{bus_start, bus_more, bus_done}
 use Rattle.operators.specs.Widths.{held_more}
 use Rattle.meaning.specs.Rules.Assignments.{given}
-use Prim.Native.Nat.{◌-◌}
 use native.Mathlib.Omega.{arith}
 use mathlib.Core.Path.{sym, ◌∙◌}
 use Rattle.steps.proofs.bus_at.Goals as goal

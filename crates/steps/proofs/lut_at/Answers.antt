@@ -6,7 +6,6 @@ use Rattle.operators.specs.Folds.{row_start, row_more, row_fails, row_done, row_
 use Rattle.operators.specs.Widths.{held_lt}
 use Rattle.meaning.specs.Rules.Assignments.{given}
 use Rattle.meaning.specs.Rules.Answers.{nth, value_of}
-use Prim.Native.Nat.{◌-◌}
 use native.Mathlib.Omega.{arith}
 use mathlib.Core.Path.{sym, ◌∙◌}
 use Rattle.steps.proofs.lut_at.Goals as goal

@@ -6,7 +6,6 @@ use Rattle.meaning.specs.Rules.Assignments.{given}
 use Rattle.meaning.specs.Rules.Answers.{nth, mux_of}
 use Rattle.meaning.specs.declared.Answer.{Answer}
 use lib.Dec.{lit<}
-use Prim.Native.Nat.{◌<◌, ◌-◌}
 use mathlib.Core.Path.{refl, sym, ap, ◌∙◌}
 use Rattle.steps.proofs.mux_at.Goals as goal
 
