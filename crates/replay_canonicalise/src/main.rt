@@ -2,6 +2,8 @@
 // were and which of them differ, be it in the answer, in the list written, in the outputs behind it, in what is left
 // of the work space or in the verdict of a comparison of that list with the given one. The cases are made by
 // vectors/canonicalise.py, which has the answers from a model of document 01.
+#![tactic(auto)]
+
 mod cases;
 mod judgement;
 mod verdicts;

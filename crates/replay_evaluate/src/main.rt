@@ -1,6 +1,8 @@
 // Replays cases of the evaluator from standard input against the crate `evaluator`, and says how many there were and
 // which of them differ, be it in the answer, in the pairs written, in the output behind them or in what is left of the
 // work space. The cases are made by vectors/evaluate.py, which has the answers from a model of document 01.
+#![tactic(auto)]
+
 mod cases;
 mod inputs;
 mod pairs;

@@ -8,6 +8,8 @@
 //   7 and 8 what is expected to be found, the verdict's number or the judgement's, and the assignment at which
 //   9, 10 and 11 the first answer there: its state, width and value    12, 13 and 14 the second's
 //   15 what is expected of the work space: 1 all zeros, 0 untouched
+#![tactic(auto)]
+
 mod words;
 
 ghost use Rattle.std.specs.Prelude.{◌≡◌, ◌≤◌};

@@ -1,6 +1,8 @@
 // Replays cases of the separation from standard input against the crate `separator`, and says how many there were and
 // which of them differ, be it in the refusal, in the judgement, in the assignment, in an answer there or in what is
 // left of the work space. The cases are made by vectors/separate.py, which has the answers from a model of document 01.
+#![tactic(auto)]
+
 mod cases;
 
 ghost use Rattle.std.specs.Prelude.{◌+◌, ◌≤◌, length};

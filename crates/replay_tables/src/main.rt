@@ -1,5 +1,7 @@
 // Replays cases of the truth-table routines from standard input against the crate `tables`, and says how many there were
 // and which of them differ. The cases are made by vectors/tables.py, which computes the answers by its own method.
+#![tactic(auto)]
+
 mod answers;
 mod rows;
 

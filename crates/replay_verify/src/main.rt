@@ -1,6 +1,8 @@
 // Replays cases of the verifier from standard input against the crate `verifier`, and says how many there were and
 // which of them differ, be it in the answer or in what is left of the work space. The cases are made by
 // vectors/verify.py, which has the answers from a model of document 01.
+#![tactic(auto)]
+
 mod cases;
 
 ghost use Rattle.std.specs.Prelude.{◌+◌, ◌≤◌, length};
