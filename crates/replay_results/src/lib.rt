@@ -103,13 +103,7 @@ fn expected_words(expected: Expected) -> [u64; 10]
     ]
 }
 
-fn told(
-    rt: &impl Print,
-    case: u64,
-    name: &[u8],
-    given: &[u64; 10],
-    work: bool,
-) -> io::Result<()> {
+fn told(rt: &impl Print, case: u64, name: &[u8], given: &[u64; 10], work: bool) -> io::Result<()> {
     told_refusal(rt, case, given[0], given[1])?;
     print!(rt; ", ")?;
     rt.write_all(name)?;

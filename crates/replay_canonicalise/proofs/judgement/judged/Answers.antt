@@ -5,14 +5,14 @@ use borrow.Author.Rules.{rules}
 use Rattle.replay_canonicalise.proofs.judgement.judged.Goals as goal
 
 pub returns-then-is_expected : goal.returns-then-is_expected
-returns-then-is_expected c = 
+returns-then-is_expected c =
     record {
       value = rw (sym c.is_expected.ensures ∙ c.if-is_expected.true) refl;
       upper_bound = omega arith;
     }
 
 pub returns : goal.returns
-returns c = 
+returns c =
     record {
       value = rw (sym c.is_expected.ensures ∙ c.if-is_expected.false) refl;
       upper_bound = omega arith;
