@@ -1,6 +1,8 @@
 // A case that a replay reads begins with a row of decimal words. Each replay has a row of its own, and says for each place
 // the largest word that may stand there: the room that there is, where the word is a size. The plain meaning is
 // specs/CaseRows.antt.
+#![tactic(auto)]
+
 ghost use Rattle.std.specs.Prelude.{◌≡◌, ◌≤◌, length};
 ghost use Rattle.decimals.specs.Rows.{filled};
 ghost use Rattle.case_rows.specs.CaseRows.{case_row, checked, within};

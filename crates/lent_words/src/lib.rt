@@ -1,6 +1,8 @@
 // Lent space before and after a call that a replay tries (document 01: "unchanged if 1, 2 or 10 refuses, else all zeros
 // after the call; output past the answer is unchanged"). Words of 64 bits here, as work space has; those of 32 bits, as
 // a list has, in `narrow`. The plain meaning of both is specs/Lent.antt.
+#![tactic(auto)]
+
 pub mod narrow;
 
 ghost use Rattle.std.specs.Prelude.{◌≡◌, ◌<◌, drop};

@@ -1,13 +1,13 @@
 // What a case expects of the canonicaliser, whether that is what was seen, and how the difference is told. The plain
 // meaning is specs/Judgement.antt.
-ghost use Rattle.std.specs.Prelude.{◌≡◌, ◌≤◌};
+ghost use Rattle.std.specs.Prelude.{◌≡◌, ◌≤◌, false, IfOk, OnErr};
 ghost use Rattle.replay_canonicalise.specs.Judgement.{expected_words, seen_words, as_expected, differs};
 
 use canonical_words::four_words;
-use libc::STDOUT_FILENO;
 use meaning::Canonical;
 use replay_report::{told_refusal, told_work};
 use replay_results::alike;
+use std::io;
 
 // How much of a canonical list stands in the text
 #[derive(Clone, Copy)]
@@ -38,16 +38,23 @@ pub(crate) struct Seen {
 }
 
 // Says so where the case differs, be it in what was seen or in the list that was written; the answer is 1 then, and
-// else 0.
-pub(crate) fn judged(case: u64, expected: Expected, seen: Seen, list: bool) -> u64
-    ensures value { result ≡ differs expected seen list }
-    ensures upper_bound { result ≤ 1 }
+// else 0. An error comes only of that: where the case differs.
+pub(crate) fn judged(
+    rt: &impl Print,
+    case: u64,
+    expected: Expected,
+    seen: Seen,
+    list: bool,
+) -> io::Result<u64>
+    ensures value { IfOk result (λ differ. differ ≡ differs expected seen list) }
+    ensures upper_bound { IfOk result (λ differ. differ ≤ 1) }
+    ensures err { OnErr result (as_expected expected seen list ≡ false) }
 {
     if is_expected(expected, seen, list) {
-        return 0;
+        return Ok(0);
     }
-    told(case, seen, list);
-    1
+    told(rt, case, seen, list)?;
+    Ok(1)
 }
 
 fn is_expected(expected: Expected, seen: Seen, list: bool) -> bool
@@ -85,25 +92,20 @@ fn expected_words(expected: Expected) -> [u64; 5]
     ]
 }
 
-fn told(case: u64, seen: Seen, list: bool) {
+fn told(rt: &impl Print, case: u64, seen: Seen, list: bool) -> io::Result<()> {
     let words = seen_words(seen);
-    told_refusal(case, words[0], words[1]);
-    told_counts(words[2], words[3], words[4]);
-    told_work(seen.work);
+    told_refusal(rt, case, words[0], words[1])?;
+    told_counts(rt, words[2], words[3], words[4])?;
+    told_work(rt, seen.work)?;
     if !list {
-        io::write_all(STDOUT_FILENO, b", list not as expected");
+        print!(rt; ", list not as expected")?;
     }
     if !seen.behind {
-        io::write_all(STDOUT_FILENO, b", output touched behind it");
+        print!(rt; ", output touched behind it")?;
     }
-    io::write_all(STDOUT_FILENO, b"\n");
+    println!(rt;)
 }
 
-fn told_counts(words: u64, entries: u64, verdict: u64) {
-    io::write_all(STDOUT_FILENO, b", node words ");
-    io::print_decimal(STDOUT_FILENO, words);
-    io::write_all(STDOUT_FILENO, b" pool entries ");
-    io::print_decimal(STDOUT_FILENO, entries);
-    io::write_all(STDOUT_FILENO, b" verdict ");
-    io::print_decimal(STDOUT_FILENO, verdict);
+fn told_counts(rt: &impl Print, words: u64, entries: u64, verdict: u64) -> io::Result<()> {
+    print!(rt; ", node words {words} pool entries {entries} verdict {verdict}")
 }

@@ -2,12 +2,14 @@
 // were and which of them differ, be it in the answer, in the list written, in the outputs behind it, in what is left
 // of the work space or in the verdict of a comparison of that list with the given one. The cases are made by
 // vectors/canonicalise.py, which has the answers from a model of document 01.
+#![tactic(auto)]
+
 mod cases;
 mod judgement;
 mod verdicts;
 mod written;
 
-ghost use Rattle.std.specs.Prelude.{◌+◌, ◌≤◌, length};
+ghost use Rattle.std.specs.Prelude.{◌+◌, ◌≤◌, length, IfOk};
 ghost use Rattle.replay_canonicalise.specs.Cases.{Fits};
 ghost use Rattle.replay_canonicalise.specs.Outputs.{Markable};
 ghost use Rattle.replay_report.specs.Turns.{GetsOn};
@@ -20,7 +22,8 @@ use judgement::{Expected, Listed, Seen, judged};
 use lent_words::{fill, is_left, narrow};
 use list_room::{TEXT_ROOM, node_room, pool_room, text_room, work_room};
 use list_words::{Entries, next_list};
-use replay_report::{Tally, Turn, counted, goes_on, report, started, too_long};
+use replay_report::{Tally, Turn, counted, goes_on, read_full, report, started, too_long};
+use std::io;
 use verdicts::verdict_on;
 use written::{Written, next_written};
 
@@ -75,6 +78,7 @@ fn called(
 // Reads the list that is expected, and judges the case. One whose list has no place in its output is a fault of the
 // text.
 fn compared(
+    rt: &impl Print,
     number: u64,
     expected: Expected,
     text: &[u8],
@@ -82,29 +86,30 @@ fn compared(
     seen: Seen,
     out_nodes: &[u32],
     out_pool: &[u32],
-) -> Turn
+) -> io::Result<Turn>
     requires { at ≤ length text.now }
-    ensures { GetsOn (length text.now) at result }
+    ensures { IfOk result (GetsOn (length text.now) at) }
 {
     let words = expected.listed.words;
     let entries = expected.listed.entries;
     if words > out_nodes.len() {
-        return Turn::Malformed(at);
+        return Ok(Turn::Malformed(at));
     }
     if entries > out_pool.len() {
-        return Turn::Malformed(at);
+        return Ok(Turn::Malformed(at));
     }
     let reading = next_written(text, at, &out_nodes[..words], &out_pool[..entries]);
     match reading {
-        Written::Read { next, same: list } => Turn::Tried {
+        Written::Read { next, same: list } => Ok(Turn::Tried {
             next: next,
-            differ: judged(number, expected, seen, list),
-        },
-        Written::Bad(offset) => Turn::Malformed(offset),
+            differ: judged(rt, number, expected, seen, list)?,
+        }),
+        Written::Bad(offset) => Ok(Turn::Malformed(offset)),
     }
 }
 
 fn tried_in(
+    rt: &impl Print,
     number: u64,
     expected: Expected,
     text: &[u8],
@@ -114,27 +119,28 @@ fn tried_in(
     work: &mut [u64],
     out_nodes: &mut [u32],
     out_pool: &mut [u32],
-) -> Turn
+) -> io::Result<Turn>
     requires at_in_bounds { at ≤ length text.now }
     requires markable { Markable out_nodes.old out_pool.old }
-    ensures { GetsOn (length text.now) at result }
+    ensures { IfOk result (GetsOn (length text.now) at) }
 {
     let seen = called(expected, nodes, pool, work, out_nodes, out_pool);
-    compared(number, expected, text, at, seen, out_nodes, out_pool)
+    compared(rt, number, expected, text, at, seen, out_nodes, out_pool)
 }
 
 // Work space and outputs as long as the case asks. Each case has new room, so that none finds what another left.
 fn with_space(
+    rt: &impl Print,
     number: u64,
     row: &[u64; ROW_WORDS],
     text: &[u8],
     at: usize,
     nodes: &[u32],
     pool: &[u32],
-) -> Turn
+) -> io::Result<Turn>
     requires at_in_bounds { at ≤ length text.now }
     requires fits { Fits row.now }
-    ensures { GetsOn (length text.now) at result }
+    ensures { IfOk result (GetsOn (length text.now) at) }
 {
     let mut work = work_room();
     let mut out_nodes = node_room();
@@ -143,6 +149,7 @@ fn with_space(
     let words = row[3] as usize;
     let entries = row[4] as usize;
     tried_in(
+        rt,
         number,
         expected_of(row),
         text,
@@ -157,35 +164,43 @@ fn with_space(
 
 // Reads the case's list into what is lent for it, and tries the case.
 fn tried(
+    rt: &impl Print,
     number: u64,
     row: &[u64; ROW_WORDS],
     text: &[u8],
     at: usize,
     nodes: &mut [u32],
     pool: &mut [u32],
-) -> Turn
+) -> io::Result<Turn>
     requires at_in_bounds { at ≤ length text.now }
     requires fits { Fits row.now }
-    ensures { GetsOn (length text.now) at result }
+    ensures { IfOk result (GetsOn (length text.now) at) }
 {
     let reading = next_list(text, at, nodes, pool);
     match reading {
-        Entries::Whole(next) => with_space(number, row, text, next, nodes, pool),
-        Entries::Bad(offset) => Turn::Malformed(offset),
+        Entries::Whole(next) => with_space(rt, number, row, text, next, nodes, pool),
+        Entries::Bad(offset) => Ok(Turn::Malformed(offset)),
     }
 }
 
 // Node words and pool entries as many as the case has.
-fn in_room(number: u64, row: &[u64; ROW_WORDS], text: &[u8], at: usize) -> Turn
+fn in_room(
+    rt: &impl Print,
+    number: u64,
+    row: &[u64; ROW_WORDS],
+    text: &[u8],
+    at: usize,
+) -> io::Result<Turn>
     requires at_in_bounds { at ≤ length text.now }
     requires fits { Fits row.now }
-    ensures { GetsOn (length text.now) at result }
+    ensures { IfOk result (GetsOn (length text.now) at) }
 {
     let mut nodes = node_room();
     let mut pool = pool_room();
     let words = row[0] as usize;
     let entries = row[1] as usize;
     tried(
+        rt,
         number,
         row,
         text,
@@ -195,41 +210,42 @@ fn in_room(number: u64, row: &[u64; ROW_WORDS], text: &[u8], at: usize) -> Turn
     )
 }
 
-fn next_case(number: u64, text: &[u8], at: usize) -> Turn
-    ensures { GetsOn (length text.now) (at + 1) result }
+fn next_case(rt: &impl Print, number: u64, text: &[u8], at: usize) -> io::Result<Turn>
+    ensures { IfOk result (GetsOn (length text.now) (at + 1)) }
 {
     let largest = largest();
     let mut row = [0u64; ROW_WORDS];
     let reading = next_case_row(text, at, &mut row, &largest);
     match reading {
-        Row::Whole(next) => in_room(number, &row, text, next),
-        Row::End => Turn::End,
-        Row::Bad(offset) => Turn::Malformed(offset),
+        Row::Whole(next) => in_room(rt, number, &row, text, next),
+        Row::End => Ok(Turn::End),
+        Row::Bad(offset) => Ok(Turn::Malformed(offset)),
     }
 }
 
 // ---- all cases
 
 // Cases are numbered from 1.
-fn replay(text: &[u8]) -> Tally {
+fn replay(rt: &impl Print, text: &[u8]) -> io::Result<Tally> {
     let mut tally = started();
     while goes_on(tally) {
-        tally = counted(tally, next_case(tally.cases + 1, text, tally.at));
+        tally = counted(tally, next_case(rt, tally.cases + 1, text, tally.at)?);
     }
-    tally
+    Ok(tally)
 }
 
 // An input that fills the whole room may go on behind it, and is not replayed in part. The stack must hold the text and
 // the room for a case, some five megabytes together.
-fn main() {
+fn main(rt: HostRuntime) -> io::Result<()> {
     let mut text = text_room();
-    let n = io::read_full(0, &mut text);
+    let mut input = rt.stdin();
+    let n = read_full(&mut input, &mut text)?;
     if n == TEXT_ROOM {
-        too_long(n);
-        return;
+        return too_long(&rt, n);
     }
     report(
-        replay(&text[..n]),
+        &rt,
+        replay(&rt, &text[..n])?,
         b"replay_canonicalise < FILE, with cases of decimal words as vectors/canonicalise.py makes them",
-    );
+    )
 }

@@ -1,12 +1,14 @@
 // Replays cases of the evaluator from standard input against the crate `evaluator`, and says how many there were and
 // which of them differ, be it in the answer, in the pairs written, in the output behind them or in what is left of the
 // work space. The cases are made by vectors/evaluate.py, which has the answers from a model of document 01.
+#![tactic(auto)]
+
 mod cases;
 mod inputs;
 mod pairs;
 mod room;
 
-ghost use Rattle.std.specs.Prelude.{◌+◌, ◌≤◌, length};
+ghost use Rattle.std.specs.Prelude.{◌+◌, ◌≤◌, length, IfOk};
 ghost use Rattle.replay_evaluate.specs.Cases.{Fits};
 ghost use Rattle.replay_report.specs.Turns.{GetsOn};
 
@@ -17,15 +19,16 @@ use decimals::Row;
 use evaluator::eval;
 use inputs::next_inputs;
 use lent_words::{fill, is_left};
-use libc::STDOUT_FILENO;
 use list_room::{TEXT_ROOM, node_room, pool_room, text_room, work_room};
 use list_words::Entries;
 use meaning::Refusal;
 use pairs::{Pairs, next_pairs};
 use replay_report::{
-    Tally, Turn, counted, goes_on, report, started, told_answer, told_refusal, told_work, too_long,
+    Tally, Turn, counted, goes_on, read_full, report, started, told_answer, told_refusal,
+    told_work, too_long,
 };
 use room::{byte_room, out_room};
+use std::io;
 
 // What is seen of a call: its refusal, the root's answer, whether the work space is as expected, and whether the output
 // behind the pairs is untouched
@@ -39,17 +42,22 @@ struct Seen {
 
 // ---- one case
 
-fn told(number: u64, seen: Seen, pairs: bool) {
-    told_refusal(number, seen.refusal.number as u64, seen.refusal.node as u64);
-    told_answer(seen.root.state, seen.root.width, seen.root.value);
-    told_work(seen.work);
+fn told(rt: &impl Print, number: u64, seen: Seen, pairs: bool) -> io::Result<()> {
+    told_refusal(
+        rt,
+        number,
+        seen.refusal.number as u64,
+        seen.refusal.node as u64,
+    )?;
+    told_answer(rt, seen.root.state, seen.root.width, seen.root.value)?;
+    told_work(rt, seen.work)?;
     if !pairs {
-        io::write_all(STDOUT_FILENO, b", pairs not as expected");
+        print!(rt; ", pairs not as expected")?;
     }
     if !seen.behind {
-        io::write_all(STDOUT_FILENO, b", output touched behind them");
+        print!(rt; ", output touched behind them")?;
     }
-    io::write_all(STDOUT_FILENO, b"\n");
+    println!(rt;)
 }
 
 fn is_refusal(given: Refusal, expected: Expected) -> bool {
@@ -57,8 +65,14 @@ fn is_refusal(given: Refusal, expected: Expected) -> bool {
 }
 
 // Says so where the case differs, be it in what was seen or in the pairs; the answer is 1 then, and else 0.
-fn judged(number: u64, expected: Expected, seen: Seen, pairs: bool) -> u64
-    ensures { result ≤ 1 }
+fn judged(
+    rt: &impl Print,
+    number: u64,
+    expected: Expected,
+    seen: Seen,
+    pairs: bool,
+) -> io::Result<u64>
+    ensures { IfOk result (λ differ. differ ≤ 1) }
 {
     if is_refusal(seen.refusal, expected)
         && same(seen.root, expected.root)
@@ -66,41 +80,43 @@ fn judged(number: u64, expected: Expected, seen: Seen, pairs: bool) -> u64
         && seen.behind
         && pairs
     {
-        return 0;
+        return Ok(0);
     }
-    told(number, seen, pairs);
-    1
+    told(rt, number, seen, pairs)?;
+    Ok(1)
 }
 
 // Reads the pairs that are expected, and judges the case. One whose pairs have no place in its output is a fault of the
 // text.
 fn compared(
+    rt: &impl Print,
     number: u64,
     expected: Expected,
     text: &[u8],
     at: usize,
     seen: Seen,
     out: &[u64],
-) -> Turn
+) -> io::Result<Turn>
     requires { at ≤ length text.now }
-    ensures { GetsOn (length text.now) at result }
+    ensures { IfOk result (GetsOn (length text.now) at) }
 {
     let count = expected.pairs;
     if count > out.len() {
-        return Turn::Malformed(at);
+        return Ok(Turn::Malformed(at));
     }
     let reading = next_pairs(text, at, &out[..count]);
     match reading {
-        Pairs::Read { next, same: pairs } => Turn::Tried {
+        Pairs::Read { next, same: pairs } => Ok(Turn::Tried {
             next: next,
-            differ: judged(number, expected, seen, pairs),
-        },
-        Pairs::Bad(offset) => Turn::Malformed(offset),
+            differ: judged(rt, number, expected, seen, pairs)?,
+        }),
+        Pairs::Bad(offset) => Ok(Turn::Malformed(offset)),
     }
 }
 
 // Calls with lent space that is filled, and looks at what is left of it.
 fn called(
+    rt: &impl Print,
     number: u64,
     expected: Expected,
     text: &[u8],
@@ -110,9 +126,9 @@ fn called(
     bytes: &[u8],
     work: &mut [u64],
     out: &mut [u64],
-) -> Turn
+) -> io::Result<Turn>
     requires { at ≤ length text.now }
-    ensures { GetsOn (length text.now) at result }
+    ensures { IfOk result (GetsOn (length text.now) at) }
 {
     fill(work);
     fill(out);
@@ -125,11 +141,12 @@ fn called(
         work: is_left(work, 0, expected.cleared),
         behind: is_left(out, expected.pairs, false),
     };
-    compared(number, expected, text, at, seen, out)
+    compared(rt, number, expected, text, at, seen, out)
 }
 
 // Work space and output as long as the case asks. Each case has new room, so that none finds what another left.
 fn with_space(
+    rt: &impl Print,
     number: u64,
     row: &[u64; ROW_WORDS],
     text: &[u8],
@@ -137,16 +154,17 @@ fn with_space(
     nodes: &[u32],
     pool: &[u32],
     bytes: &[u8],
-) -> Turn
+) -> io::Result<Turn>
     requires at_in_bounds { at ≤ length text.now }
     requires fits { Fits row.now }
-    ensures { GetsOn (length text.now) at result }
+    ensures { IfOk result (GetsOn (length text.now) at) }
 {
     let mut work = work_room();
     let mut out = out_room();
     let words = row[3] as usize;
     let places = row[4] as usize;
     called(
+        rt,
         number,
         expected_of(row),
         text,
@@ -161,6 +179,7 @@ fn with_space(
 
 // Reads the case's list and bytes into what is lent for them, and tries the case.
 fn tried(
+    rt: &impl Print,
     number: u64,
     row: &[u64; ROW_WORDS],
     text: &[u8],
@@ -168,23 +187,29 @@ fn tried(
     nodes: &mut [u32],
     pool: &mut [u32],
     bytes: &mut [u8],
-) -> Turn
+) -> io::Result<Turn>
     requires at_in_bounds { at ≤ length text.now }
     requires fits { Fits row.now }
-    ensures { GetsOn (length text.now) at result }
+    ensures { IfOk result (GetsOn (length text.now) at) }
 {
     let reading = next_inputs(text, at, nodes, pool, bytes);
     match reading {
-        Entries::Whole(next) => with_space(number, row, text, next, nodes, pool, bytes),
-        Entries::Bad(offset) => Turn::Malformed(offset),
+        Entries::Whole(next) => with_space(rt, number, row, text, next, nodes, pool, bytes),
+        Entries::Bad(offset) => Ok(Turn::Malformed(offset)),
     }
 }
 
 // Node words, pool entries and bytes as many as the case has.
-fn in_room(number: u64, row: &[u64; ROW_WORDS], text: &[u8], at: usize) -> Turn
+fn in_room(
+    rt: &impl Print,
+    number: u64,
+    row: &[u64; ROW_WORDS],
+    text: &[u8],
+    at: usize,
+) -> io::Result<Turn>
     requires at_in_bounds { at ≤ length text.now }
     requires fits { Fits row.now }
-    ensures { GetsOn (length text.now) at result }
+    ensures { IfOk result (GetsOn (length text.now) at) }
 {
     let mut nodes = node_room();
     let mut pool = pool_room();
@@ -193,6 +218,7 @@ fn in_room(number: u64, row: &[u64; ROW_WORDS], text: &[u8], at: usize) -> Turn
     let entries = row[1] as usize;
     let count = row[2] as usize;
     tried(
+        rt,
         number,
         row,
         text,
@@ -203,41 +229,42 @@ fn in_room(number: u64, row: &[u64; ROW_WORDS], text: &[u8], at: usize) -> Turn
     )
 }
 
-fn next_case(number: u64, text: &[u8], at: usize) -> Turn
-    ensures { GetsOn (length text.now) (at + 1) result }
+fn next_case(rt: &impl Print, number: u64, text: &[u8], at: usize) -> io::Result<Turn>
+    ensures { IfOk result (GetsOn (length text.now) (at + 1)) }
 {
     let largest = largest();
     let mut row = [0u64; ROW_WORDS];
     let reading = next_case_row(text, at, &mut row, &largest);
     match reading {
-        Row::Whole(next) => in_room(number, &row, text, next),
-        Row::End => Turn::End,
-        Row::Bad(offset) => Turn::Malformed(offset),
+        Row::Whole(next) => in_room(rt, number, &row, text, next),
+        Row::End => Ok(Turn::End),
+        Row::Bad(offset) => Ok(Turn::Malformed(offset)),
     }
 }
 
 // ---- all cases
 
 // Cases are numbered from 1.
-fn replay(text: &[u8]) -> Tally {
+fn replay(rt: &impl Print, text: &[u8]) -> io::Result<Tally> {
     let mut tally = started();
     while goes_on(tally) {
-        tally = counted(tally, next_case(tally.cases + 1, text, tally.at));
+        tally = counted(tally, next_case(rt, tally.cases + 1, text, tally.at)?);
     }
-    tally
+    Ok(tally)
 }
 
 // An input that fills the whole room may go on behind it, and is not replayed in part. The stack must hold the text and
 // the room for a case, some three megabytes together.
-fn main() {
+fn main(rt: HostRuntime) -> io::Result<()> {
     let mut text = text_room();
-    let n = io::read_full(0, &mut text);
+    let mut input = rt.stdin();
+    let n = read_full(&mut input, &mut text)?;
     if n == TEXT_ROOM {
-        too_long(n);
-        return;
+        return too_long(&rt, n);
     }
     report(
-        replay(&text[..n]),
+        &rt,
+        replay(&rt, &text[..n])?,
         b"replay_evaluate < FILE, with cases of decimal words as vectors/evaluate.py makes them",
-    );
+    )
 }

@@ -8,14 +8,16 @@
 //   7 and 8 what is expected to be found, the verdict's number or the judgement's, and the assignment at which
 //   9, 10 and 11 the first answer there: its state, width and value    12, 13 and 14 the second's
 //   15 what is expected of the work space: 1 all zeros, 0 untouched
+#![tactic(auto)]
+
 mod words;
 
-ghost use Rattle.std.specs.Prelude.{◌≡◌, ◌≤◌};
+ghost use Rattle.std.specs.Prelude.{◌≡◌, ◌≤◌, false, IfOk, OnErr};
 ghost use Rattle.replay_results.specs.Results.{expected_of, expected_words, as_expected, differs};
 
 use answer_words::Words;
-use libc::STDOUT_FILENO;
 use replay_report::{told_answer, told_refusal, told_work};
+use std::io;
 pub use words::alike;
 
 pub const ROW_WORDS: usize = 16;
@@ -54,16 +56,24 @@ pub fn expected_of(row: &[u64; ROW_WORDS]) -> Expected
 }
 
 // The words that a call answered, and whether it left the work space as expected. Says so where the case differs; the
-// answer is 1 then, and else 0. What was found is told by its name.
-pub fn judged(case: u64, name: &[u8], expected: Expected, given: &[u64; 10], work: bool) -> u64
-    ensures value { result ≡ differs expected given.now work }
-    ensures upper_bound { result ≤ 1 }
+// answer is 1 then, and else 0. What was found is told by its name. An error comes only of that: where the case differs.
+pub fn judged(
+    rt: &impl Print,
+    case: u64,
+    name: &[u8],
+    expected: Expected,
+    given: &[u64; 10],
+    work: bool,
+) -> io::Result<u64>
+    ensures value { IfOk result (λ differ. differ ≡ differs expected given.now work) }
+    ensures upper_bound { IfOk result (λ differ. differ ≤ 1) }
+    ensures err { OnErr result (as_expected expected given.now work ≡ false) }
 {
     if is_expected(expected, given, work) {
-        return 0;
+        return Ok(0);
     }
-    told(case, name, given, work);
-    1
+    told(rt, case, name, given, work)?;
+    Ok(1)
 }
 
 fn is_expected(expected: Expected, given: &[u64; 10], work: bool) -> bool
@@ -93,16 +103,15 @@ fn expected_words(expected: Expected) -> [u64; 10]
     ]
 }
 
-fn told(case: u64, name: &[u8], given: &[u64; 10], work: bool) {
-    told_refusal(case, given[0], given[1]);
-    io::write_all(STDOUT_FILENO, b", ");
-    io::write_all(STDOUT_FILENO, name);
-    io::write_all(STDOUT_FILENO, b" ");
-    io::print_decimal(STDOUT_FILENO, given[2]);
-    io::write_all(STDOUT_FILENO, b" index ");
-    io::print_decimal(STDOUT_FILENO, given[3]);
-    told_answer(given[4], given[5], given[6]);
-    told_answer(given[7], given[8], given[9]);
-    told_work(work);
-    io::write_all(STDOUT_FILENO, b"\n");
+fn told(rt: &impl Print, case: u64, name: &[u8], given: &[u64; 10], work: bool) -> io::Result<()> {
+    told_refusal(rt, case, given[0], given[1])?;
+    print!(rt; ", ")?;
+    rt.write_all(name)?;
+    let found = given[2];
+    let index = given[3];
+    print!(rt; " {found} index {index}")?;
+    told_answer(rt, given[4], given[5], given[6])?;
+    told_answer(rt, given[7], given[8], given[9])?;
+    told_work(rt, work)?;
+    println!(rt;)
 }

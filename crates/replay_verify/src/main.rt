@@ -1,9 +1,11 @@
 // Replays cases of the verifier from standard input against the crate `verifier`, and says how many there were and
 // which of them differ, be it in the answer or in what is left of the work space. The cases are made by
 // vectors/verify.py, which has the answers from a model of document 01.
+#![tactic(auto)]
+
 mod cases;
 
-ghost use Rattle.std.specs.Prelude.{◌+◌, ◌≤◌, length};
+ghost use Rattle.std.specs.Prelude.{◌+◌, ◌≤◌, length, IfOk};
 ghost use Rattle.replay_verify.specs.Cases.{Fits};
 ghost use Rattle.replay_report.specs.Turns.{GetsOn};
 
@@ -11,21 +13,21 @@ use case_rows::next_case_row;
 use cases::{Expected, ROW_WORDS, expected_of, largest};
 use decimals::Row;
 use lent_words::{fill, is_left};
-use libc::STDOUT_FILENO;
 use list_room::{TEXT_ROOM, node_room, pool_room, text_room, work_room};
 use list_words::{Entries, next_list};
 use meaning::Refusal;
 use replay_report::{
-    Tally, Turn, counted, goes_on, report, started, told_refusal, told_work, too_long,
+    Tally, Turn, counted, goes_on, read_full, report, started, told_refusal, told_work, too_long,
 };
+use std::io;
 use verifier::verify_expr;
 
 // ---- one case
 
-fn told(number: u64, given: Refusal, left: bool) {
-    told_refusal(number, given.number as u64, given.node as u64);
-    told_work(left);
-    io::write_all(STDOUT_FILENO, b"\n");
+fn told(rt: &impl Print, number: u64, given: Refusal, left: bool) -> io::Result<()> {
+    told_refusal(rt, number, given.number as u64, given.node as u64)?;
+    told_work(rt, left)?;
+    println!(rt;)
 }
 
 fn is_answer(given: Refusal, expected: Expected) -> bool {
@@ -33,63 +35,91 @@ fn is_answer(given: Refusal, expected: Expected) -> bool {
 }
 
 // Says so where the case differs; the answer is 1 then, and else 0.
-fn compared(number: u64, expected: Expected, nodes: &[u32], pool: &[u32], work: &mut [u64]) -> u64
-    ensures { result ≤ 1 }
+fn compared(
+    rt: &impl Print,
+    number: u64,
+    expected: Expected,
+    nodes: &[u32],
+    pool: &[u32],
+    work: &mut [u64],
+) -> io::Result<u64>
+    ensures { IfOk result (λ differ. differ ≤ 1) }
 {
     fill(work);
     let given = verify_expr(nodes, pool, work);
     let left = is_left(work, 0, expected.cleared);
     if is_answer(given, expected) && left {
-        return 0;
+        return Ok(0);
     }
-    told(number, given, left);
-    1
+    told(rt, number, given, left)?;
+    Ok(1)
 }
 
 // Work space as long as the case asks. Each case has new room, so that none finds what another left.
-fn with_space(number: u64, row: &[u64; ROW_WORDS], nodes: &[u32], pool: &[u32]) -> u64
+fn with_space(
+    rt: &impl Print,
+    number: u64,
+    row: &[u64; ROW_WORDS],
+    nodes: &[u32],
+    pool: &[u32],
+) -> io::Result<u64>
     requires { Fits row.now }
-    ensures { result ≤ 1 }
+    ensures { IfOk result (λ differ. differ ≤ 1) }
 {
     let mut work = work_room();
     let words = row[2] as usize;
-    compared(number, expected_of(row), nodes, pool, &mut work[..words])
+    compared(
+        rt,
+        number,
+        expected_of(row),
+        nodes,
+        pool,
+        &mut work[..words],
+    )
 }
 
 // Reads the case's list into what is lent for it, and tries the case.
 fn tried(
+    rt: &impl Print,
     number: u64,
     row: &[u64; ROW_WORDS],
     text: &[u8],
     at: usize,
     nodes: &mut [u32],
     pool: &mut [u32],
-) -> Turn
+) -> io::Result<Turn>
     requires at_in_bounds { at ≤ length text.now }
     requires fits { Fits row.now }
-    ensures { GetsOn (length text.now) at result }
+    ensures { IfOk result (GetsOn (length text.now) at) }
 {
     let reading = next_list(text, at, nodes, pool);
     match reading {
-        Entries::Whole(next) => Turn::Tried {
+        Entries::Whole(next) => Ok(Turn::Tried {
             next: next,
-            differ: with_space(number, row, nodes, pool),
-        },
-        Entries::Bad(offset) => Turn::Malformed(offset),
+            differ: with_space(rt, number, row, nodes, pool)?,
+        }),
+        Entries::Bad(offset) => Ok(Turn::Malformed(offset)),
     }
 }
 
 // Node words and pool entries as many as the case has.
-fn in_room(number: u64, row: &[u64; ROW_WORDS], text: &[u8], at: usize) -> Turn
+fn in_room(
+    rt: &impl Print,
+    number: u64,
+    row: &[u64; ROW_WORDS],
+    text: &[u8],
+    at: usize,
+) -> io::Result<Turn>
     requires at_in_bounds { at ≤ length text.now }
     requires fits { Fits row.now }
-    ensures { GetsOn (length text.now) at result }
+    ensures { IfOk result (GetsOn (length text.now) at) }
 {
     let mut nodes = node_room();
     let mut pool = pool_room();
     let words = row[0] as usize;
     let entries = row[1] as usize;
     tried(
+        rt,
         number,
         row,
         text,
@@ -99,41 +129,42 @@ fn in_room(number: u64, row: &[u64; ROW_WORDS], text: &[u8], at: usize) -> Turn
     )
 }
 
-fn next_case(number: u64, text: &[u8], at: usize) -> Turn
-    ensures { GetsOn (length text.now) (at + 1) result }
+fn next_case(rt: &impl Print, number: u64, text: &[u8], at: usize) -> io::Result<Turn>
+    ensures { IfOk result (GetsOn (length text.now) (at + 1)) }
 {
     let largest = largest();
     let mut row = [0u64; ROW_WORDS];
     let reading = next_case_row(text, at, &mut row, &largest);
     match reading {
-        Row::Whole(next) => in_room(number, &row, text, next),
-        Row::End => Turn::End,
-        Row::Bad(offset) => Turn::Malformed(offset),
+        Row::Whole(next) => in_room(rt, number, &row, text, next),
+        Row::End => Ok(Turn::End),
+        Row::Bad(offset) => Ok(Turn::Malformed(offset)),
     }
 }
 
 // ---- all cases
 
 // Cases are numbered from 1.
-fn replay(text: &[u8]) -> Tally {
+fn replay(rt: &impl Print, text: &[u8]) -> io::Result<Tally> {
     let mut tally = started();
     while goes_on(tally) {
-        tally = counted(tally, next_case(tally.cases + 1, text, tally.at));
+        tally = counted(tally, next_case(rt, tally.cases + 1, text, tally.at)?);
     }
-    tally
+    Ok(tally)
 }
 
 // An input that fills the whole room may go on behind it, and is not replayed in part. The stack must hold the text and
 // the room for a case, three megabytes together.
-fn main() {
+fn main(rt: HostRuntime) -> io::Result<()> {
     let mut text = text_room();
-    let n = io::read_full(0, &mut text);
+    let mut input = rt.stdin();
+    let n = read_full(&mut input, &mut text)?;
     if n == TEXT_ROOM {
-        too_long(n);
-        return;
+        return too_long(&rt, n);
     }
     report(
-        replay(&text[..n]),
+        &rt,
+        replay(&rt, &text[..n])?,
         b"replay_verify < FILE, with cases of decimal words as vectors/verify.py makes them",
-    );
+    )
 }

@@ -11,21 +11,21 @@ pub returns-in-Whole : goal.returns-in-Whole
 returns-in-Whole c = 
     record {
       value = c.checked.ensures
-          ∙ ap (λ (xs : List ℕ). checked xs c.args.largest.now c.args.at c.reading-1.given.0.0) c.next_row-reading.ensures.row_after
-          ∙ sym (case_row_is c.args.text.now c.args.at c.args.row.now c.args.largest.now (Whole _) (sym c.next_row-reading.ensures.value ∙ c.reading-1.given.1));
+          ∙ ap (λ (xs : List ℕ). checked xs c.args.largest.now c.args.at c.in-Whole.next) c.next_row-reading.ensures.row_after
+          ∙ sym (case_row_is c.args.text.now c.args.at c.args.row.now c.args.largest.now (Whole _) (sym c.in-Whole.ensures.value));
       row_after = c.next_row-reading.ensures.row_after;
     }
 
 pub returns-in-End : goal.returns-in-End
 returns-in-End c = 
     record {
-      value = sym (case_row_is c.args.text.now c.args.at c.args.row.now c.args.largest.now End (sym c.next_row-reading.ensures.value ∙ c.enum_told-1.given.1));
+      value = sym (case_row_is c.args.text.now c.args.at c.args.row.now c.args.largest.now End (sym c.in-End.ensures.value));
       row_after = c.next_row-reading.ensures.row_after;
     }
 
 pub returns-in-Bad : goal.returns-in-Bad
 returns-in-Bad c = 
     record {
-      value = sym (case_row_is c.args.text.now c.args.at c.args.row.now c.args.largest.now (Bad _) (sym c.next_row-reading.ensures.value ∙ c.reading-in-Bad-1.given.1));
+      value = sym (case_row_is c.args.text.now c.args.at c.args.row.now c.args.largest.now (Bad _) (sym c.in-Bad.ensures.value));
       row_after = c.next_row-reading.ensures.row_after;
     }

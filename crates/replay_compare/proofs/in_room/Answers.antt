@@ -8,25 +8,25 @@ use borrow.Author.Rules.{rules}
 use Rattle.replay_compare.proofs.in_room.Goals as goal
 
 pub slice_bounds-nodes-end : goal.slice_bounds-nodes-end
-slice_bounds-nodes-end c = omega (arith, words_fit c.args.row.now c.requires.fits)
+slice_bounds-nodes-end g c = omega (arith, words_fit c.args.row.now c.requires.fits)
 
 pub slice_bounds-tried-end : goal.slice_bounds-tried-end
-slice_bounds-tried-end c = sym (length-take-le (get_or c.args.row.now 0 0) c.node_room-nodes.result (omega (arith, words_fit c.args.row.now c.requires.fits)))
+slice_bounds-tried-end g c = sym (length-take-le (get_or c.args.row.now 0 0) c.node_room-nodes.result (omega (arith, words_fit c.args.row.now c.requires.fits)))
 
 pub slice_bounds-pool-end : goal.slice_bounds-pool-end
-slice_bounds-pool-end c = omega (arith, entries_fit c.args.row.now c.requires.fits)
+slice_bounds-pool-end g c = omega (arith, entries_fit c.args.row.now c.requires.fits)
 
 pub slice_bounds-tried-end-2 : goal.slice_bounds-tried-end-2
-slice_bounds-tried-end-2 c = sym (length-take-le (get_or c.args.row.now 1 0) c.pool_room-pool.result (omega (arith, entries_fit c.args.row.now c.requires.fits)))
+slice_bounds-tried-end-2 g c = sym (length-take-le (get_or c.args.row.now 1 0) c.pool_room-pool.result (omega (arith, entries_fit c.args.row.now c.requires.fits)))
 
 pub slice_bounds-second_nodes-end : goal.slice_bounds-second_nodes-end
-slice_bounds-second_nodes-end c = omega (arith, second_words_fit c.args.row.now c.requires.fits)
+slice_bounds-second_nodes-end g c = omega (arith, second_words_fit c.args.row.now c.requires.fits)
 
 pub slice_bounds-tried-end-3 : goal.slice_bounds-tried-end-3
-slice_bounds-tried-end-3 c = sym (length-take-le (get_or c.args.row.now 2 0) c.node_room-second_nodes.result (omega (arith, second_words_fit c.args.row.now c.requires.fits)))
+slice_bounds-tried-end-3 g c = sym (length-take-le (get_or c.args.row.now 2 0) c.node_room-second_nodes.result (omega (arith, second_words_fit c.args.row.now c.requires.fits)))
 
 pub slice_bounds-second_pool-end : goal.slice_bounds-second_pool-end
-slice_bounds-second_pool-end c = omega (arith, second_entries_fit c.args.row.now c.requires.fits)
+slice_bounds-second_pool-end g c = omega (arith, second_entries_fit c.args.row.now c.requires.fits)
 
 pub slice_bounds-tried-end-4 : goal.slice_bounds-tried-end-4
-slice_bounds-tried-end-4 c = sym (length-take-le (get_or c.args.row.now 3 0) c.pool_room-second_pool.result (omega (arith, second_entries_fit c.args.row.now c.requires.fits)))
+slice_bounds-tried-end-4 g c = sym (length-take-le (get_or c.args.row.now 3 0) c.pool_room-second_pool.result (omega (arith, second_entries_fit c.args.row.now c.requires.fits)))

@@ -6,9 +6,7 @@ use borrow.Author.Rules.{rules}
 use Rattle.replay_compare.proofs.tried.Goals as goal
 
 pub with_space-requires : goal.with_space-requires
-with_space-requires c = c.requires.fits
+with_space-requires g c = c.requires.fits
 
-pub returns-in-Whole : goal.returns-in-Whole
-returns-in-Whole c =
-    let on = subst (Reaches (length c.args.text.now) c.args.at) c.reading-1.given.1 c.next_lists-reading.ensures in
-    (on.0, on.1, c.with_space.ensures)
+pub returns-in_ok-with_space-in-Whole : goal.returns-in_ok-with_space-in-Whole
+returns-in_ok-with_space-in-Whole g c = (c.in-Whole.ensures.0, c.in-Whole.ensures.1, c.in_ok-with_space-in-Whole.ensures)

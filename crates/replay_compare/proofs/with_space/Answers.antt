@@ -8,7 +8,7 @@ use borrow.Author.Rules.{rules}
 use Rattle.replay_compare.proofs.with_space.Goals as goal
 
 pub slice_bounds-work-end : goal.slice_bounds-work-end
-slice_bounds-work-end c = omega (arith, work_fits c.args.row.now c.requires)
+slice_bounds-work-end g c = omega (arith, work_fits c.args.row.now c.requires)
 
 pub slice_bounds-called-end : goal.slice_bounds-called-end
-slice_bounds-called-end c = sym (length-take-le (get_or c.args.row.now 4 0) c.pair_work_room-work.result (omega (arith, work_fits c.args.row.now c.requires)))
+slice_bounds-called-end g c = sym (length-take-le (get_or c.args.row.now 4 0) c.pair_work_room-work.result (omega (arith, work_fits c.args.row.now c.requires)))

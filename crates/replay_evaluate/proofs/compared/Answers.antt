@@ -8,9 +8,7 @@ use borrow.Author.Rules.{rules}
 use Rattle.replay_evaluate.proofs.compared.Goals as goal
 
 pub slice_bounds-next_pairs-end : goal.slice_bounds-next_pairs-end
-slice_bounds-next_pairs-end c = sym (length-take-le c.args.expected.pairs c.args.out.now (omega (arith, c.if-count-out.false)))
+slice_bounds-next_pairs-end g c = sym (length-take-le c.args.expected.pairs c.args.out.now (omega (arith, c.if-count-out.false)))
 
-pub returns-in-Read : goal.returns-in-Read
-returns-in-Read c =
-    let on = subst (ReadOn (length c.args.text.now) c.args.at) c.reading-1.given.1 c.next_pairs-reading.ensures in
-    (on.0, on.1, c.judged.ensures)
+pub returns-in_ok-judged-in-Read : goal.returns-in_ok-judged-in-Read
+returns-in_ok-judged-in-Read g c = (c.in-Read.ensures.0, c.in-Read.ensures.1, c.in_ok-judged-in-Read.ensures)

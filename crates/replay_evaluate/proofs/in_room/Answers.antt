@@ -8,19 +8,19 @@ use borrow.Author.Rules.{rules}
 use Rattle.replay_evaluate.proofs.in_room.Goals as goal
 
 pub slice_bounds-nodes-end : goal.slice_bounds-nodes-end
-slice_bounds-nodes-end c = omega (arith, words_fit c.args.row.now c.requires.fits)
+slice_bounds-nodes-end g c = omega (arith, words_fit c.args.row.now c.requires.fits)
 
 pub slice_bounds-tried-end : goal.slice_bounds-tried-end
-slice_bounds-tried-end c = sym (length-take-le (get_or c.args.row.now 0 0) c.node_room-nodes.result (omega (arith, words_fit c.args.row.now c.requires.fits)))
+slice_bounds-tried-end g c = sym (length-take-le (get_or c.args.row.now 0 0) c.node_room-nodes.result (omega (arith, words_fit c.args.row.now c.requires.fits)))
 
 pub slice_bounds-pool-end : goal.slice_bounds-pool-end
-slice_bounds-pool-end c = omega (arith, entries_fit c.args.row.now c.requires.fits)
+slice_bounds-pool-end g c = omega (arith, entries_fit c.args.row.now c.requires.fits)
 
 pub slice_bounds-tried-end-2 : goal.slice_bounds-tried-end-2
-slice_bounds-tried-end-2 c = sym (length-take-le (get_or c.args.row.now 1 0) c.pool_room-pool.result (omega (arith, entries_fit c.args.row.now c.requires.fits)))
+slice_bounds-tried-end-2 g c = sym (length-take-le (get_or c.args.row.now 1 0) c.pool_room-pool.result (omega (arith, entries_fit c.args.row.now c.requires.fits)))
 
 pub slice_bounds-bytes-end : goal.slice_bounds-bytes-end
-slice_bounds-bytes-end c = omega (arith, bytes_fit c.args.row.now c.requires.fits)
+slice_bounds-bytes-end g c = omega (arith, bytes_fit c.args.row.now c.requires.fits)
 
 pub slice_bounds-tried-end-3 : goal.slice_bounds-tried-end-3
-slice_bounds-tried-end-3 c = sym (length-take-le (get_or c.args.row.now 2 0) c.byte_room-bytes.result (omega (arith, bytes_fit c.args.row.now c.requires.fits)))
+slice_bounds-tried-end-3 g c = sym (length-take-le (get_or c.args.row.now 2 0) c.byte_room-bytes.result (omega (arith, bytes_fit c.args.row.now c.requires.fits)))

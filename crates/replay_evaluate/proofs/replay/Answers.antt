@@ -7,16 +7,16 @@ use borrow.Author.Rules.{rules}
 use Rattle.replay_evaluate.proofs.replay.Goals as goal
 
 pub loop-tally-init : goal.loop-tally-init
-loop-tally-init c = started_within (length c.args.text.now) c.started-tally.ensures
+loop-tally-init g c = started_within (length c.args.text.now) c.started-tally.ensures
 
 pub overflow_add-tally : goal.overflow_add-tally
-overflow_add-tally c = omega (arith, c.loop-tally.invariant.0, c.loop-tally.invariant.1)
+overflow_add-tally g c = omega (arith, c.loop-tally.invariant.0, c.loop-tally.invariant.1)
 
 pub counted-tally-requires : goal.counted-tally-requires
-counted-tally-requires c = within_countable (length c.args.text.now) c.loop-tally.tally c.next_case.result (omega arith) c.loop-tally.invariant c.next_case.ensures
+counted-tally-requires g c = within_countable (length c.args.text.now) c.loop-tally.tally c.in_ok-next_case.field-0 (omega arith) c.loop-tally.invariant c.in_ok-next_case.ensures
 
 pub loop-tally-smaller : goal.loop-tally-smaller
-loop-tally-smaller c = (one_turn (length c.args.text.now) c.loop-tally.tally c.next_case.result c.counted-tally.ensures (sym c.goes_on.ensures ∙ c.loop-tally-test.true) c.loop-tally.invariant c.next_case.ensures).1
+loop-tally-smaller g c = (one_turn (length c.args.text.now) c.loop-tally.tally c.in_ok-next_case.field-0 c.counted-tally.ensures (sym c.goes_on.ensures ∙ c.loop-tally-test.true) c.loop-tally.invariant c.in_ok-next_case.ensures).1
 
 pub loop-tally-preserved : goal.loop-tally-preserved
-loop-tally-preserved c = (one_turn (length c.args.text.now) c.loop-tally.tally c.next_case.result c.counted-tally.ensures (sym c.goes_on.ensures ∙ c.loop-tally-test.true) c.loop-tally.invariant c.next_case.ensures).0
+loop-tally-preserved g c = (one_turn (length c.args.text.now) c.loop-tally.tally c.in_ok-next_case.field-0 c.counted-tally.ensures (sym c.goes_on.ensures ∙ c.loop-tally-test.true) c.loop-tally.invariant c.in_ok-next_case.ensures).0

@@ -7,7 +7,7 @@ use borrow.Author.Rules.{rules}
 use Rattle.replay_evaluate.proofs.replay.Given as goal
 
 abbrev pub invariant-loop-tally : goal.invariant-loop-tally
-invariant-loop-tally l = Within (length l.text) l.tally
+invariant-loop-tally g l = Within (length l.text) l.tally
 
 abbrev pub decreases-loop-tally : goal.decreases-loop-tally
-decreases-loop-tally l = ahead (length l.text) l.tally
+decreases-loop-tally g l = ahead (length l.text) l.tally

@@ -1,5 +1,5 @@
 -- `tried` meets its contract: a case is tried from where its list and bytes end.
-use Rattle.replay_report.specs.Turns.{gets_on_from}
+use Rattle.replay_report.specs.Turns.{ok_from}
 use Rattle.replay_evaluate.specs.Inputs.{Reaches}
 use mathlib.Core.Path.{subst}
 use lib.ListN.{length}
@@ -7,14 +7,11 @@ use borrow.Author.Rules.{rules}
 use Rattle.replay_evaluate.proofs.tried.Goals as goal
 
 pub with_space-requires : goal.with_space-requires
-with_space-requires c =
-    let on = subst (Reaches (length c.args.text.now) c.args.at) c.reading-1.given.1 c.next_inputs-reading.ensures in
+with_space-requires g c =
     record {
-      at_in_bounds = on.1;
+      at_in_bounds = c.in-Whole.ensures.1;
       fits = c.requires.fits;
     }
 
 pub returns-in-Whole : goal.returns-in-Whole
-returns-in-Whole c =
-    let on = subst (Reaches (length c.args.text.now) c.args.at) c.reading-1.given.1 c.next_inputs-reading.ensures in
-    gets_on_from (length c.args.text.now) c.reading-1.given.0.0 c.args.at c.with_space.result on.0 c.with_space.ensures
+returns-in-Whole g c = ok_from (length c.args.text.now) c.in-Whole.next c.args.at c.with_space.result c.in-Whole.ensures.0 c.with_space.ensures

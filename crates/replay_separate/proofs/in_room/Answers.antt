@@ -8,13 +8,13 @@ use borrow.Author.Rules.{rules}
 use Rattle.replay_separate.proofs.in_room.Goals as goal
 
 pub slice_bounds-nodes-end : goal.slice_bounds-nodes-end
-slice_bounds-nodes-end c = omega (arith, words_fit c.args.row.now c.requires.fits)
+slice_bounds-nodes-end g c = omega (arith, words_fit c.args.row.now c.requires.fits)
 
 pub slice_bounds-tried-end : goal.slice_bounds-tried-end
-slice_bounds-tried-end c = sym (length-take-le (get_or c.args.row.now 0 0) c.node_room-nodes.result (omega (arith, words_fit c.args.row.now c.requires.fits)))
+slice_bounds-tried-end g c = sym (length-take-le (get_or c.args.row.now 0 0) c.node_room-nodes.result (omega (arith, words_fit c.args.row.now c.requires.fits)))
 
 pub slice_bounds-pool-end : goal.slice_bounds-pool-end
-slice_bounds-pool-end c = omega (arith, entries_fit c.args.row.now c.requires.fits)
+slice_bounds-pool-end g c = omega (arith, entries_fit c.args.row.now c.requires.fits)
 
 pub slice_bounds-tried-end-2 : goal.slice_bounds-tried-end-2
-slice_bounds-tried-end-2 c = sym (length-take-le (get_or c.args.row.now 1 0) c.pool_room-pool.result (omega (arith, entries_fit c.args.row.now c.requires.fits)))
+slice_bounds-tried-end-2 g c = sym (length-take-le (get_or c.args.row.now 1 0) c.pool_room-pool.result (omega (arith, entries_fit c.args.row.now c.requires.fits)))

@@ -7,7 +7,7 @@ use mathlib.Core.Path.{refl}
 use borrow.Author.Rules.{rules}
 use Rattle.replay_tables.proofs.next_case.Goals as goal
 
-pub returns-in-Whole : goal.returns-in-Whole
-returns-in-Whole c =
-    let got = case_row_gives c.args.text.now c.args.at _ _ _ c.reading-1.given.0.0 _ _ c.next_case_row-reading.ensures c.reading-1.given.1 refl tt in
-    (omega (arith, got.0.past), got.0.within, c.tried.ensures)
+pub returns-in_ok-tried-in-Whole : goal.returns-in_ok-tried-in-Whole
+returns-in_ok-tried-in-Whole g c =
+    let got = case_row_gives c.args.text.now c.args.at _ _ _ c.in-Whole.next _ _ (c.in-Whole.ensures.value, c.in-Whole.ensures.row_after) refl refl tt in
+    (omega (arith, got.0.past), got.0.within, c.in_ok-tried-in-Whole.ensures)

@@ -6,9 +6,9 @@ use borrow.Author.Rules.{rules}
 use Rattle.replay_verify.proofs.tried.Goals as goal
 
 pub with_space-requires : goal.with_space-requires
-with_space-requires c = c.requires.fits
+with_space-requires g c = c.requires.fits
 
-pub returns-in-Whole : goal.returns-in-Whole
-returns-in-Whole c =
-    let on = list_ahead c.args.text.now c.args.at (length c.args.nodes.now) (length c.args.pool.now) c.reading-1.given.0.0 c.requires.at_in_bounds (sym c.next_list-reading.ensures.value ∙ c.reading-1.given.1) in
-    (on.0, on.1, c.with_space.ensures)
+pub returns-in_ok-with_space-in-Whole : goal.returns-in_ok-with_space-in-Whole
+returns-in_ok-with_space-in-Whole g c =
+    let on = list_ahead c.args.text.now c.args.at (length c.args.nodes.now) (length c.args.pool.now) c.in-Whole.next c.requires.at_in_bounds (sym c.in-Whole.ensures.value) in
+    (on.0, on.1, c.in_ok-with_space-in-Whole.ensures)

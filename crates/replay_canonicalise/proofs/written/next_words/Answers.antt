@@ -12,7 +12,7 @@ loop-place-init c = (omega arith, refl, omega arith, c.requires)
 
 pub loop-place-preserved : goal.loop-place-preserved
 loop-place-preserved c =
-    let a = entry_ahead c.args.text.now c.loop-place.next _ _ (sym c.next_entry-entry.ensures ∙ c.entry-1.given.1) in
+    let a = entry_ahead c.args.text.now c.loop-place.next _ _ (sym c.in-Value.ensures) in
     (omega arith, c.loop-place.invariant.1, omega (arith, a.past, c.loop-place.invariant.2), a.within)
 
 pub returns : goal.returns

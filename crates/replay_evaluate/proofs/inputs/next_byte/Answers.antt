@@ -7,5 +7,5 @@ use Rattle.replay_evaluate.proofs.inputs.next_byte.Goals as goal
 
 pub returns-else-value-gt-LARGEST_BYTE : goal.returns-else-value-gt-LARGEST_BYTE
 returns-else-value-gt-LARGEST_BYTE c =
-    let a = entry_ahead c.args.text.now c.args.at _ _ (sym c.next_entry-entry.ensures ∙ c.entry-1.given.1) in
+    let a = entry_ahead c.args.text.now c.args.at _ _ (sym c.in-Value.ensures) in
     (omega (arith, c.if-value-gt-LARGEST_BYTE.false), a)

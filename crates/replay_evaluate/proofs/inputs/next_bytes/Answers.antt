@@ -12,12 +12,12 @@ loop-place-init c = (omega arith, refl, refl, omega arith, c.requires)
 
 pub overflow_cast-places : goal.overflow_cast-places
 overflow_cast-places c =
-    let a = subst (ByteAhead (length c.args.text.now) c.loop-place.next) c.entry-1.given.1 c.next_byte-entry.ensures in
+    let a = c.in-Value.ensures in
     omega (arith, a.0)
 
 pub loop-place-preserved : goal.loop-place-preserved
 loop-place-preserved c =
-    let a = subst (ByteAhead (length c.args.text.now) c.loop-place.next) c.entry-1.given.1 c.next_byte-entry.ensures in
+    let a = c.in-Value.ensures in
     (omega arith, c.loop-place.invariant.1, simp length-set c.loop-place.invariant.2, omega (arith, a.1.past, c.loop-place.invariant.3), a.1.within)
 
 pub returns : goal.returns

@@ -10,14 +10,14 @@ use Rattle.replay_evaluate.proofs.inputs.next_inputs.Goals as goal
 
 pub next_bytes-requires : goal.next_bytes-requires
 next_bytes-requires c =
-    let whole : next_list c.args.text.now c.args.at (length c.args.nodes.now) (length c.args.pool.now) ≡ Whole c.reading-1.given.0.0 =
-    sym c.next_list-reading.ensures.value ∙ c.reading-1.given.1 in
-    let on = list_ahead c.args.text.now c.args.at (length c.args.nodes.now) (length c.args.pool.now) c.reading-1.given.0.0 c.requires whole in
+    let whole : next_list c.args.text.now c.args.at (length c.args.nodes.now) (length c.args.pool.now) ≡ Whole c.in-Whole.next =
+    sym c.in-Whole.ensures.value in
+    let on = list_ahead c.args.text.now c.args.at (length c.args.nodes.now) (length c.args.pool.now) c.in-Whole.next c.requires whole in
     on.1
 
 pub returns-in-Whole : goal.returns-in-Whole
 returns-in-Whole c =
-    let whole : next_list c.args.text.now c.args.at (length c.args.nodes.now) (length c.args.pool.now) ≡ Whole c.reading-1.given.0.0 =
-    sym c.next_list-reading.ensures.value ∙ c.reading-1.given.1 in
-    let on = list_ahead c.args.text.now c.args.at (length c.args.nodes.now) (length c.args.pool.now) c.reading-1.given.0.0 c.requires whole in
-    reaches_from (length c.args.text.now) c.reading-1.given.0.0 c.args.at c.next_bytes.result on.0 c.next_bytes.ensures
+    let whole : next_list c.args.text.now c.args.at (length c.args.nodes.now) (length c.args.pool.now) ≡ Whole c.in-Whole.next =
+    sym c.in-Whole.ensures.value in
+    let on = list_ahead c.args.text.now c.args.at (length c.args.nodes.now) (length c.args.pool.now) c.in-Whole.next c.requires whole in
+    reaches_from (length c.args.text.now) c.in-Whole.next c.args.at c.next_bytes.result on.0 c.next_bytes.ensures
