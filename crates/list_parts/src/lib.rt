@@ -11,8 +11,8 @@ ghost use Rattle.list_texts.specs.Counted as counted;
 ghost use Rattle.list_parts.specs.Parts as parts;
 
 use list_texts::{ListAt, Rest, list_at, rest_from};
-use std::io::Write;
 use messages::{write_bad, write_left_over, write_too_many};
+use std::io::Write;
 
 // A list at the start of what was lent for it, and the offset behind it; or nothing, and the message is written.
 #[derive(Clone, Copy)]

@@ -18,11 +18,7 @@ pub(crate) fn write_bad<W: Write>(
     write_offset(err, offset)
 }
 
-pub(crate) fn write_left_over<W: Write>(
-    err: &mut W,
-    name: &[u8],
-    offset: usize,
-) -> io::Result<()> {
+pub(crate) fn write_left_over<W: Write>(err: &mut W, name: &[u8], offset: usize) -> io::Result<()> {
     write_name(err, name)?;
     err.write_all(b"words left over behind the list, which ends at offset ")?;
     write_offset(err, offset)
