@@ -8,92 +8,93 @@ ghost use Rattle.meaning.specs.Rules.Kinds.{variable_word};
 use lists::children::children_of;
 use meaning::kinds::VARIABLE;
 use nodes::{count_of, datum_of, first_of, kind_of, node_count};
+use std::io;
+use std::io::Write;
 
 // Any words; a list that a call answered has a line for each node.
-pub fn write_term(fd: i32, nodes: &[u32], pool: &[u32]) {
+pub fn write_term<W: Write>(out: &mut W, nodes: &[u32], pool: &[u32]) -> io::Result<()> {
     let count = node_count(nodes);
     for i in 0..count {
-        write_line(fd, nodes, pool, i);
+        write_line(out, nodes, pool, i)?;
     }
+    Ok(())
 }
 
-fn write_line(fd: i32, nodes: &[u32], pool: &[u32], i: usize)
+fn write_line<W: Write>(out: &mut W, nodes: &[u32], pool: &[u32], i: usize) -> io::Result<()>
     requires { i < node_count nodes.now }
 {
-    write_name(fd, i as u64);
-    io::write_all(fd, b": ");
+    write_name(out, i as u64)?;
+    out.write_all(b": ")?;
     let kind = kind_of(nodes, i);
     if kind > VARIABLE {
-        io::write_all(fd, b"(");
-        write_operator(fd, kind);
-        write_children(fd, nodes, pool, i);
-        io::write_all(fd, b")\n");
-        return;
+        out.write_all(b"(")?;
+        write_operator(out, kind)?;
+        write_children(out, nodes, pool, i)?;
+        return out.write_all(b")\n");
     }
-    write_leaf(fd, kind, datum_of(nodes, i));
-    io::write_all(fd, b"\n");
+    write_leaf(out, kind, datum_of(nodes, i))?;
+    out.write_all(b"\n")
 }
 
-fn write_name(fd: i32, node: u64) {
-    io::write_all(fd, b"n");
-    io::print_decimal(fd, node);
+fn write_name<W: Write>(out: &mut W, node: u64) -> io::Result<()> {
+    write!(out, "n{node}")
 }
 
 // Const, Program, DC and Var
-fn write_leaf(fd: i32, kind: u32, datum: u64) -> bool {
+fn write_leaf<W: Write>(out: &mut W, kind: u32, datum: u64) -> io::Result<()> {
     match kind {
-        0 => write_constant(fd, datum),
-        1 => io::print_decimal(fd, datum),
-        2 => io::write_all(fd, b"x"),
-        _ => write_variable(fd, datum),
+        0 => write_constant(out, datum),
+        1 => write!(out, "{datum}"),
+        2 => out.write_all(b"x"),
+        _ => write_variable(out, datum),
     }
 }
 
-fn write_constant(fd: i32, bit: u64) -> bool {
+fn write_constant<W: Write>(out: &mut W, bit: u64) -> io::Result<()> {
     if bit == 1 {
-        return io::write_all(fd, b"true");
+        return out.write_all(b"true");
     }
-    io::write_all(fd, b"false")
+    out.write_all(b"false")
 }
 
-fn write_variable(fd: i32, variable: u64) -> bool {
-    io::write_all(fd, b"v");
-    io::print_decimal(fd, variable)
+fn write_variable<W: Write>(out: &mut W, variable: u64) -> io::Result<()> {
+    write!(out, "v{variable}")
 }
 
 // The operators' words: one arm for each of the kinds 4 to 16. No list of a call's has another.
-fn write_operator(fd: i32, kind: u32) -> bool {
+fn write_operator<W: Write>(out: &mut W, kind: u32) -> io::Result<()> {
     match kind {
-        4 => io::write_all(fd, b"NOR"),
-        5 => io::write_all(fd, b"MUX"),
-        6 => io::write_all(fd, b"AND"),
-        7 => io::write_all(fd, b"XOR"),
-        8 => io::write_all(fd, b"NOT"),
-        9 => io::write_all(fd, b"LUT"),
-        10 => io::write_all(fd, b"BUS"),
-        11 => io::write_all(fd, b"REG"),
-        12 => io::write_all(fd, b"FDSE"),
-        13 => io::write_all(fd, b"FDPE"),
-        14 => io::write_all(fd, b"FDCE"),
-        15 => io::write_all(fd, b"ARG"),
-        16 => io::write_all(fd, b"CYCLE"),
-        _ => io::write_all(fd, b"?"),
+        4 => out.write_all(b"NOR"),
+        5 => out.write_all(b"MUX"),
+        6 => out.write_all(b"AND"),
+        7 => out.write_all(b"XOR"),
+        8 => out.write_all(b"NOT"),
+        9 => out.write_all(b"LUT"),
+        10 => out.write_all(b"BUS"),
+        11 => out.write_all(b"REG"),
+        12 => out.write_all(b"FDSE"),
+        13 => out.write_all(b"FDPE"),
+        14 => out.write_all(b"FDCE"),
+        15 => out.write_all(b"ARG"),
+        16 => out.write_all(b"CYCLE"),
+        _ => out.write_all(b"?"),
     }
 }
 
-fn write_children(fd: i32, nodes: &[u32], pool: &[u32], i: usize)
+fn write_children<W: Write>(out: &mut W, nodes: &[u32], pool: &[u32], i: usize) -> io::Result<()>
     requires i_bound { i < node_count nodes.now }
     requires variable_word_bound { variable_word < kind_at nodes.now i }
 {
     let children = children_there(nodes, pool, i);
     for place in 0..children.len() {
-        write_child(fd, children[place]);
+        write_child(out, children[place])?;
     }
+    Ok(())
 }
 
-fn write_child(fd: i32, child: u32) {
-    io::write_all(fd, b" ");
-    write_name(fd, child as u64);
+fn write_child<W: Write>(out: &mut W, child: u32) -> io::Result<()> {
+    out.write_all(b" ")?;
+    write_name(out, child as u64)
 }
 
 // The children of a node that has some; none where their part runs past the pool, as in no list that a call answers.

@@ -3,31 +3,34 @@
 ghost use Rattle.std.specs.Prelude.{◌<◌};
 
 use meaning::limits::WORDS_PER_NODE;
+use std::io;
+use std::io::Write;
 
 const ENTRIES_PER_LINE: usize = 16;
 
 // A node a line
-pub fn write_words(fd: i32, nodes: &[u32], pool: &[u32]) {
-    write_counted(fd, nodes, WORDS_PER_NODE);
-    write_counted(fd, pool, ENTRIES_PER_LINE);
+pub fn write_words<W: Write>(out: &mut W, nodes: &[u32], pool: &[u32]) -> io::Result<()> {
+    write_counted(out, nodes, WORDS_PER_NODE)?;
+    write_counted(out, pool, ENTRIES_PER_LINE)
 }
 
 // How many there are, alone on a line, and then the words, so many to a line.
-fn write_counted(fd: i32, words: &[u32], per_line: usize)
+fn write_counted<W: Write>(out: &mut W, words: &[u32], per_line: usize) -> io::Result<()>
     requires { 0 < per_line }
 {
-    io::print_decimal(fd, words.len() as u64);
+    let count = words.len();
+    write!(out, "{count}")?;
     for place in 0..words.len() {
-        write_word(fd, words[place], place % per_line == 0);
+        write_word(out, words[place], place % per_line == 0)?;
     }
-    io::write_all(fd, b"\n");
+    out.write_all(b"\n")
 }
 
-fn write_word(fd: i32, word: u32, begins_line: bool) {
+fn write_word<W: Write>(out: &mut W, word: u32, begins_line: bool) -> io::Result<()> {
     if begins_line {
-        io::write_all(fd, b"\n");
+        out.write_all(b"\n")?;
     } else {
-        io::write_all(fd, b" ");
+        out.write_all(b" ")?;
     }
-    io::print_decimal(fd, word as u64);
+    write!(out, "{word}")
 }

@@ -2,20 +2,27 @@
 ghost use Rattle.std.specs.Prelude.{◌≤◌, length};
 ghost use Rattle.list_room.specs.Written.{pair_work_room, Taken};
 
-use libc::STDOUT_FILENO;
 use meaning::Refusal;
 use meaning::numbers::{DONE, MANY_INPUTS, NOT_ALIGNED, OVER_LIMIT};
 use sizes::sizes;
+use std::io;
+use std::io::Write;
 use verifier::sound;
 
-pub(crate) fn write_list(number: u32, nodes: &[u32], pool: &[u32], work: &mut [u64])
+pub(crate) fn write_list(
+    rt: &HostRuntime,
+    number: u32,
+    nodes: &[u32],
+    pool: &[u32],
+    work: &mut [u64],
+) -> io::Result<()>
     requires taken { Taken nodes.now pool.now }
     requires pair_work_room_in_bounds { pair_work_room ≤ length work.old }
 {
     if is_first(number, nodes, pool, work) {
-        io::write_all(STDOUT_FILENO, b"first list: ");
+        rt.stdout().write_all(b"first list: ")
     } else {
-        io::write_all(STDOUT_FILENO, b"second list: ");
+        rt.stdout().write_all(b"second list: ")
     }
 }
 

@@ -1,4 +1,6 @@
 // Reads decimal words from bytes: what every replay of recorded cases and every program reads its input with.
+#![tactic(auto)]
+
 mod rows;
 
 ghost use Rattle.std.specs.Prelude.{◌≡◌, true, ◌-◌, ◌≤◌, drop};

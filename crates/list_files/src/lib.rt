@@ -1,11 +1,24 @@
 // Texts and lists from files: what a program that takes lists on its command line reads them with. A caller brings the
 // places, and is told that the list stands at their start, so that it can be lent on (list_parts, specs/Parts, `Held`);
-// what a file holds no contract can say. Where there is no list, the reason is on standard error.
+// what a file holds no contract can say. Where there is no list, the reason is on standard error. A reason that can't be
+// written changes no answer, since there is nobody left to tell.
+#![tactic(auto)]
+
+pub mod arguments;
+pub mod buffers;
+mod messages;
+
+ghost use Rattle.std.specs.Prelude.{◌≡◌};
 ghost use Rattle.list_parts.specs.Parts as parts;
 ghost use Rattle.list_files.specs.Texts as texts;
 
-use libc::{STDERR_FILENO, STDIN_FILENO};
+use buffers::{buffer, large_buffer};
 use list_parts::{Found, ends, find_list};
+use messages::{write_failure, write_no_argument, write_no_name, write_too_long};
+use std::env::Env;
+use std::fs::File;
+use std::io::{Read, Write};
+use std::str;
 
 // So many bytes are the whole text; or there is none, and the message is written.
 #[derive(Clone, Copy)]
@@ -15,70 +28,100 @@ pub enum Text {
 }
 
 // Is that argument `-`, which stands for standard input?
-pub fn names_input(i: usize) -> bool {
-    let mut argument = io::buffer();
-    let n = os::arg(i, &mut argument);
-    n == 1 && argument[0] == b'-'
+pub fn names_input(rt: &impl Env, i: usize) -> bool {
+    let mut argument = buffer();
+    match rt.arg(i, &mut argument) {
+        Ok(n) => n == 1 && argument[0] == b'-',
+        Err(_) => false,
+    }
 }
 
 // The list that is alone in the file which an argument names, or on standard input.
-pub fn list_of_source(i: usize, nodes: &mut [u32], pool: &mut [u32]) -> Found
+pub fn list_of_source(rt: &HostRuntime, i: usize, nodes: &mut [u32], pool: &mut [u32]) -> Found
     ensures { parts.Held nodes.new pool.new result }
 {
-    if names_input(i) {
-        return list_of_file(STDIN_FILENO, b"standard input", nodes, pool);
+    if names_input(rt, i) {
+        let mut input = rt.stdin();
+        let mut err = rt.stderr();
+        return list_of_file(&mut input, &mut err, b"standard input", nodes, pool);
     }
-    list_of_argument(i, nodes, pool)
+    list_of_argument(rt, i, nodes, pool)
 }
 
 // The list that is alone in the file which an argument names.
-pub fn list_of_argument(i: usize, nodes: &mut [u32], pool: &mut [u32]) -> Found
+pub fn list_of_argument(rt: &HostRuntime, i: usize, nodes: &mut [u32], pool: &mut [u32]) -> Found
     ensures { parts.Held nodes.new pool.new result }
 {
-    let mut path = io::buffer();
-    let n = os::arg(i, &mut path);
-    if os::errno() != 0 {
-        os::fail(b"FILE");
-        return Found::Nothing;
+    let mut path = buffer();
+    match rt.arg(i, &mut path) {
+        Ok(n) => list_of_path(rt, &path[..n], nodes, pool),
+        Err(why) => {
+            let _ = write_no_argument(&mut rt.stderr(), why);
+            Found::Nothing
+        }
     }
-    list_of_path(&path[..n], nodes, pool)
 }
 
-fn list_of_path(path: &[u8], nodes: &mut [u32], pool: &mut [u32]) -> Found
+// A file is opened by a name that is text; another one is refused, since no call of the library takes it.
+fn list_of_path(rt: &HostRuntime, path: &[u8], nodes: &mut [u32], pool: &mut [u32]) -> Found
     ensures { parts.Held nodes.new pool.new result }
 {
-    let fd = os::open_read(path);
-    if fd < 0 {
-        os::fail(path);
-        return Found::Nothing;
+    match str::from_utf8(path) {
+        Ok(name) => list_of_name(rt, name, nodes, pool),
+        Err(_) => {
+            let _ = write_no_name(&mut rt.stderr(), path);
+            Found::Nothing
+        }
     }
-    let found = list_of_file(fd, path, nodes, pool);
-    libc::close(fd);
-    found
 }
 
-fn list_of_file(fd: i32, name: &[u8], nodes: &mut [u32], pool: &mut [u32]) -> Found
+fn list_of_name(rt: &HostRuntime, name: &str, nodes: &mut [u32], pool: &mut [u32]) -> Found
     ensures { parts.Held nodes.new pool.new result }
 {
-    let mut text = io::large_buffer();
-    let reading = read_text(fd, name, &mut text);
+    let mut err = rt.stderr();
+    match File::open(rt, name) {
+        Ok(mut file) => list_of_file(&mut file, &mut err, name.as_bytes(), nodes, pool),
+        Err(why) => {
+            let _ = write_failure(&mut err, name.as_bytes(), &why);
+            Found::Nothing
+        }
+    }
+}
+
+fn list_of_file<R: Read, W: Write>(
+    source: &mut R,
+    err: &mut W,
+    name: &[u8],
+    nodes: &mut [u32],
+    pool: &mut [u32],
+) -> Found
+    ensures { parts.Held nodes.new pool.new result }
+{
+    let mut text = large_buffer();
+    let reading = read_text(source, err, name, &mut text);
     match reading {
-        Text::Bytes(n) => list_alone(name, &text[..n], nodes, pool),
+        Text::Bytes(n) => list_alone(err, name, &text[..n], nodes, pool),
         Text::Nothing => Found::Nothing,
     }
 }
 
-fn list_alone(name: &[u8], text: &[u8], nodes: &mut [u32], pool: &mut [u32]) -> Found
+fn list_alone<W: Write>(
+    err: &mut W,
+    name: &[u8],
+    text: &[u8],
+    nodes: &mut [u32],
+    pool: &mut [u32],
+) -> Found
     ensures { parts.Held nodes.new pool.new result }
 {
-    let found = find_list(name, text, 0, nodes, pool);
+    let found = find_list(err, name, text, 0, nodes, pool);
     match found {
         Found::List {
             words: _,
             entries: _,
             next,
         } => {
-            if ends(name, text, next) {
+            if ends(err, name, text, next) {
                 return found;
             }
             Found::Nothing
@@ -87,31 +130,42 @@ fn list_alone(name: &[u8], text: &[u8], nodes: &mut [u32], pool: &mut [u32]) -> 
     }
 }
 
-// All that a file holds, at the start of what is lent. One read more than fills it tells the file's end from a read
-// that failed and from a file that goes on.
-pub fn read_text(fd: i32, name: &[u8], text: &mut [u8]) -> Text
+// All that a source holds, at the start of what is lent. One read more than fills it tells the source's end from a read
+// that failed and from a source that goes on.
+pub fn read_text<R: Read, W: Write>(
+    source: &mut R,
+    err: &mut W,
+    name: &[u8],
+    text: &mut [u8],
+) -> Text
     ensures { texts.Lendable text.new result }
 {
-    let length = io::read_full(fd, text);
+    let length = read_full(source, text);
     let mut behind = [0u8; 1];
-    let more = libc::read(fd, &mut behind);
-    if more < 0 {
-        os::fail(name);
-        return Text::Nothing;
+    match source.read(&mut behind) {
+        Ok(0) => Text::Bytes(length),
+        Ok(_) => {
+            let _ = write_too_long(err, name, length);
+            Text::Nothing
+        }
+        Err(why) => {
+            let _ = write_failure(err, name, &why);
+            Text::Nothing
+        }
     }
-    if more > 0 {
-        write_too_long(name, length);
-        return Text::Nothing;
-    }
-    Text::Bytes(length)
 }
 
-fn write_too_long(name: &[u8], length: usize) {
-    io::write_all(STDERR_FILENO, name);
-    io::write_all(STDERR_FILENO, b": a text of more than ");
-    io::print_decimal(STDERR_FILENO, length as u64);
-    io::write_all(
-        STDERR_FILENO,
-        b" bytes, which this program has no room for\n",
-    );
+// Reads until the places are full, the source ends or a read fails, and answers how many bytes it put at their start.
+fn read_full<R: Read>(source: &mut R, text: &mut [u8]) -> usize
+    ensures { texts.IsPrefixLen result text.new }
+{
+    let mut done = 0;
+    while done < text.len() {
+        match source.read(&mut text[done..]) {
+            Ok(0) => break,
+            Ok(n) => done += n,
+            Err(_) => break,
+        }
+    }
+    done
 }

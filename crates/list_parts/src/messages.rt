@@ -1,52 +1,51 @@
 // What is wrong with a text, a line each: the name of the text, what it is, and the offset of the byte to look at.
-use libc::STDERR_FILENO;
+use std::io;
+use std::io::Write;
 
 // The end of a text is bad where a word is owed.
-pub(crate) fn write_bad(name: &[u8], text: &[u8], offset: usize) {
-    write_name(name);
+pub(crate) fn write_bad<W: Write>(
+    err: &mut W,
+    name: &[u8],
+    text: &[u8],
+    offset: usize,
+) -> io::Result<()> {
+    write_name(err, name)?;
     if offset == text.len() {
-        io::write_all(
-            STDERR_FILENO,
-            b"the list is not whole: the text ends at offset ",
-        );
+        err.write_all(b"the list is not whole: the text ends at offset ")?;
     } else {
-        io::write_all(
-            STDERR_FILENO,
-            b"no list of decimal words below 2^32: see offset ",
-        );
+        err.write_all(b"no list of decimal words below 2^32: see offset ")?;
     }
-    write_offset(offset);
+    write_offset(err, offset)
 }
 
-pub(crate) fn write_left_over(name: &[u8], offset: usize) {
-    write_name(name);
-    io::write_all(
-        STDERR_FILENO,
-        b"words left over behind the list, which ends at offset ",
-    );
-    write_offset(offset);
+pub(crate) fn write_left_over<W: Write>(err: &mut W, name: &[u8], offset: usize) -> io::Result<()> {
+    write_name(err, name)?;
+    err.write_all(b"words left over behind the list, which ends at offset ")?;
+    write_offset(err, offset)
 }
 
 // The offset is behind the count.
-pub(crate) fn write_too_many(name: &[u8], words: usize, entries: usize, offset: usize) {
-    write_name(name);
-    io::write_all(STDERR_FILENO, b"a list of more than ");
-    io::print_decimal(STDERR_FILENO, words as u64);
-    io::write_all(STDERR_FILENO, b" node words or ");
-    io::print_decimal(STDERR_FILENO, entries as u64);
-    io::write_all(
-        STDERR_FILENO,
-        b" pool entries, which this program has no room for: see the count before offset ",
-    );
-    write_offset(offset);
+pub(crate) fn write_too_many<W: Write>(
+    err: &mut W,
+    name: &[u8],
+    words: usize,
+    entries: usize,
+    offset: usize,
+) -> io::Result<()> {
+    write_name(err, name)?;
+    write!(
+        err,
+        "a list of more than {words} node words or {entries} pool entries"
+    )?;
+    err.write_all(b", which this program has no room for: see the count before offset ")?;
+    write_offset(err, offset)
 }
 
-fn write_name(name: &[u8]) {
-    io::write_all(STDERR_FILENO, name);
-    io::write_all(STDERR_FILENO, b": ");
+fn write_name<W: Write>(err: &mut W, name: &[u8]) -> io::Result<()> {
+    err.write_all(name)?;
+    err.write_all(b": ")
 }
 
-fn write_offset(offset: usize) {
-    io::print_decimal(STDERR_FILENO, offset as u64);
-    io::write_all(STDERR_FILENO, b"\n");
+fn write_offset<W: Write>(err: &mut W, offset: usize) -> io::Result<()> {
+    writeln!(err, "{offset}")
 }

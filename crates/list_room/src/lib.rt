@@ -1,6 +1,8 @@
 // Room for a list that a program reads. Past the limits of document 01 ("At most 4,096 nodes and 16,384 pool
 // entries"), so that a list over them can be brought; and room for the work space that the largest such list asks
 // ("16 u64 words per node plus 2 per pool entry"). What a person writes down is shorter, and has room in `written`.
+#![tactic(auto)]
+
 pub mod written;
 
 ghost use Rattle.std.specs.Prelude.{◌≡◌};

@@ -2,6 +2,8 @@
 // entries. This is how a user writes a list down for a program. A caller reads the list that stands at an offset with
 // `list_at`, the next one behind it, and asks `rest_from` whether the text ends there. The plain meaning is
 // specs/Counted.antt.
+#![tactic(auto)]
+
 ghost use Rattle.std.specs.Prelude.{◌≡◌, length};
 ghost use Rattle.list_texts.specs.Counted as counted;
 

@@ -2,6 +2,8 @@
 // a list read it with. A program says how many words it takes by the length of what it lends; so a word is owed, and a
 // text that ends before it is bad at its end. The plain meaning is specs/Entries.antt. A text with its counts in it is
 // read by `list_texts`.
+#![tactic(auto)]
+
 mod entry;
 
 ghost use Rattle.std.specs.Prelude.{◌≡◌, length};

@@ -1,6 +1,8 @@
 // Before a search of assignments that may be long: whether a list is searched at all, the variables below its root
-// (`variables`), and the line that tells a user of the wait. It goes to standard error, so that standard output has a
-// program's answer alone; no contract can say what is written.
+// (`variables`), and the line that tells a user of the wait. A program writes it to standard error, so that standard
+// output has its answer alone; no contract says what is written.
+#![tactic(auto)]
+
 pub mod variables;
 
 ghost use Rattle.std.specs.Prelude.{◌≡◌, ◌≤◌, length};
@@ -8,10 +10,11 @@ ghost use Rattle.list_room.specs.Written.{work_room, Taken};
 ghost use Rattle.long_searches.specs.Accepted as accepted;
 
 use bits::power_of_two;
-use libc::STDERR_FILENO;
 use meaning::limits::MOST_INPUTS;
 use meaning::numbers::DONE;
 use sizes::sizes;
+use std::io;
+use std::io::Write;
 use verifier::sound;
 
 // From so many variables on, a search may take long.
@@ -35,16 +38,18 @@ pub fn is_accepted(nodes: &[u32], pool: &[u32], work: &mut [u64]) -> bool
 
 // So many variables of what the caller names. Over 30 none are tried: equal trees are told without, and all else is
 // refused.
-pub fn write_warning(count: usize, variables: &[u8]) {
+pub fn write_warning<W: Write>(err: &mut W, count: usize, variables: &[u8]) -> io::Result<()> {
     if count < MANY {
-        return;
+        return Ok(());
     }
     if count > MOST_INPUTS {
-        return;
+        return Ok(());
     }
-    io::print_decimal(STDERR_FILENO, count as u64);
-    io::write_all(STDERR_FILENO, variables);
-    io::write_all(STDERR_FILENO, b": up to ");
-    io::print_decimal(STDERR_FILENO, power_of_two(count as u64));
-    io::write_all(STDERR_FILENO, b" assignments to try, which may take long\n");
+    let assignments = power_of_two(count as u64);
+    write!(err, "{count}")?;
+    err.write_all(variables)?;
+    writeln!(
+        err,
+        ": up to {assignments} assignments to try, which may take long"
+    )
 }

@@ -2,7 +2,8 @@
 ghost use Rattle.std.specs.Prelude.{◌≡◌, ◌^◌, ◌<◌};
 
 use super::words::{Number, number_of_argument};
-use libc::STDERR_FILENO;
+use std::io;
+use std::io::Write;
 
 // Behind the program's own name, the list and N
 const FIRST_MARK: usize = 3;
@@ -11,10 +12,10 @@ const FIRST_MARK: usize = 3;
 const MARK_COUNT: u32 = 32;
 
 // All marks together; named twice, a variable is marked all the same.
-pub(crate) fn marks_of_arguments(arguments: usize) -> Number {
+pub(crate) fn marks_of_arguments(rt: &HostRuntime, arguments: usize) -> Number {
     let mut marks: u32 = 0;
     for i in FIRST_MARK..arguments {
-        let number = mark_of_argument(i);
+        let number = mark_of_argument(rt, i);
         let Number::Value(mark) = number else {
             return Number::Nothing;
         };
@@ -24,13 +25,13 @@ pub(crate) fn marks_of_arguments(arguments: usize) -> Number {
 }
 
 // Whether there is such a variable is for number 11 to say, as long as there is a bit for its mark.
-fn mark_of_argument(i: usize) -> Number {
-    let number = number_of_argument(i, b"run signal");
+fn mark_of_argument(rt: &HostRuntime, i: usize) -> Number {
+    let number = number_of_argument(rt, i, b"run signal");
     let Number::Value(variable) = number else {
         return Number::Nothing;
     };
     if variable >= MARK_COUNT {
-        write_past_the_marks(variable);
+        let _ = write_past_the_marks(&mut rt.stderr(), variable);
         return Number::Nothing;
     }
     Number::Value(mark_of(variable))
@@ -43,11 +44,9 @@ fn mark_of(variable: u32) -> u32
     1 << variable
 }
 
-fn write_past_the_marks(variable: u32) {
-    io::write_all(STDERR_FILENO, b"run signal ");
-    io::print_decimal(STDERR_FILENO, variable as u64);
-    io::write_all(
-        STDERR_FILENO,
-        b": only variables 0 to 31 can be marked as run signals\n",
-    );
+fn write_past_the_marks<W: Write>(err: &mut W, variable: u32) -> io::Result<()> {
+    writeln!(
+        err,
+        "run signal {variable}: only variables 0 to 31 can be marked as run signals"
+    )
 }

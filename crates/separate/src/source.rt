@@ -7,34 +7,49 @@ use super::list;
 use list_files::list_of_source;
 use list_parts::Found;
 use list_room::written::{node_room, pool_room};
+use std::io;
 
-pub(crate) fn separate_source(n: u32, marks: u32) {
+pub(crate) fn separate_source(rt: &HostRuntime, n: u32, marks: u32) -> io::Result<()> {
     let mut nodes = node_room();
     let mut pool = pool_room();
-    separate_found(n, marks, &mut nodes, &mut pool);
+    separate_found(rt, n, marks, &mut nodes, &mut pool)
 }
 
 // Reads into what is lent, which is no more than the program has room for.
-fn separate_found(n: u32, marks: u32, nodes: &mut [u32], pool: &mut [u32])
+fn separate_found(
+    rt: &HostRuntime,
+    n: u32,
+    marks: u32,
+    nodes: &mut [u32],
+    pool: &mut [u32],
+) -> io::Result<()>
     requires { Taken nodes.old pool.old }
 {
-    let found = list_of_source(1, nodes, pool);
+    let found = list_of_source(rt, 1, nodes, pool);
     let Found::List {
         words,
         entries,
         next: _,
     } = found
     else {
-        return;
+        return Ok(());
     };
-    separate_starts(nodes, words, pool, entries, n, marks);
+    separate_starts(rt, nodes, words, pool, entries, n, marks)
 }
 
 // The list stands at the start of what was lent for it.
-fn separate_starts(nodes: &[u32], words: usize, pool: &[u32], entries: usize, n: u32, marks: u32)
+fn separate_starts(
+    rt: &HostRuntime,
+    nodes: &[u32],
+    words: usize,
+    pool: &[u32],
+    entries: usize,
+    n: u32,
+    marks: u32,
+) -> io::Result<()>
     requires starts { Starts words nodes.now }
     requires starts_2 { Starts entries pool.now }
     requires taken { Taken nodes.now pool.now }
 {
-    list::separate_list(&nodes[..words], &pool[..entries], n, marks);
+    list::separate_list(rt, &nodes[..words], &pool[..entries], n, marks)
 }

@@ -3,9 +3,12 @@
 ghost use Rattle.std.specs.Prelude.{◌≡◌};
 ghost use Rattle.separate.specs.Numbers as numbers;
 
-use libc::STDERR_FILENO;
+use list_files::buffers::buffer;
 use list_texts::{Rest, rest_from};
 use list_words::{Entry, next_entry};
+use std::env::Env;
+use std::io;
+use std::io::Write;
 
 // A number; or nothing, and the message is written.
 #[derive(Clone, Copy)]
@@ -14,23 +17,24 @@ pub(crate) enum Number {
     Nothing,
 }
 
-// The number that an argument is; the name says what it stands for.
-pub(crate) fn number_of_argument(i: usize, name: &[u8]) -> Number {
-    let mut argument = io::buffer();
-    let n = os::arg(i, &mut argument);
-    if os::errno() != 0 {
-        write_too_long(name);
-        return Number::Nothing;
+// The number that an argument is; the name says what it stands for. Nobody asks for an argument that is missing.
+pub(crate) fn number_of_argument(rt: &HostRuntime, i: usize, name: &[u8]) -> Number {
+    let mut argument = buffer();
+    match rt.arg(i, &mut argument) {
+        Ok(n) => told_number(&mut rt.stderr(), name, &argument[..n]),
+        Err(_) => {
+            let _ = write_too_long(&mut rt.stderr(), name);
+            Number::Nothing
+        }
     }
-    told_number(name, &argument[..n])
 }
 
-fn told_number(name: &[u8], text: &[u8]) -> Number {
+fn told_number<W: Write>(err: &mut W, name: &[u8], text: &[u8]) -> Number {
     let number = number_in(text);
     match number {
         Number::Value(value) => Number::Value(value),
         Number::Nothing => {
-            write_bad(name, text);
+            let _ = write_bad(err, name, text);
             Number::Nothing
         }
     }
@@ -52,17 +56,14 @@ fn number_in(text: &[u8]) -> Number
     }
 }
 
-fn write_bad(name: &[u8], text: &[u8]) {
-    io::write_all(STDERR_FILENO, name);
-    io::write_all(STDERR_FILENO, b" \"");
-    io::write_all(STDERR_FILENO, text);
-    io::write_all(STDERR_FILENO, b"\": no decimal number below 2^32\n");
+fn write_bad<W: Write>(err: &mut W, name: &[u8], text: &[u8]) -> io::Result<()> {
+    err.write_all(name)?;
+    err.write_all(b" \"")?;
+    err.write_all(text)?;
+    err.write_all(b"\": no decimal number below 2^32\n")
 }
 
-fn write_too_long(name: &[u8]) {
-    io::write_all(STDERR_FILENO, name);
-    io::write_all(
-        STDERR_FILENO,
-        b": an argument too long to be a decimal number below 2^32\n",
-    );
+fn write_too_long<W: Write>(err: &mut W, name: &[u8]) -> io::Result<()> {
+    err.write_all(name)?;
+    err.write_all(b": an argument too long to be a decimal number below 2^32\n")
 }

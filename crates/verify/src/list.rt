@@ -2,25 +2,25 @@
 ghost use Rattle.std.specs.Prelude.{◌≤◌, length};
 ghost use Rattle.list_room.specs.Written.{work_room, Taken};
 
-use libc::STDOUT_FILENO;
 use list_room::written::work_room;
 use meaning::Refusal;
 use meaning::numbers::DONE;
 use refusal_text::write_refusal;
 use sizes::work_for;
+use std::io;
+use std::io::Write;
 use verifier::verify_expr;
 
 // Writes `verifies`, or the refusal.
-pub(crate) fn verify(nodes: &[u32], pool: &[u32])
+pub(crate) fn verify<W: Write>(out: &mut W, nodes: &[u32], pool: &[u32]) -> io::Result<()>
     requires { Taken nodes.now pool.now }
 {
     let mut work = work_room();
     let refusal = answered(nodes, pool, &mut work);
     if refusal.number == DONE {
-        io::write_all(STDOUT_FILENO, b"verifies\n");
-        return;
+        return out.write_all(b"verifies\n");
     }
-    write_refusal(STDOUT_FILENO, refusal);
+    write_refusal(out, refusal)
 }
 
 // Lends of the work space exactly what number 10 asks.

@@ -28,7 +28,7 @@ pub returns-in-Whole : goal.returns-in-Whole
 returns-in-Whole c =
     let l : c.args.count ≤ length c.args.places.now = c.if-count-places.false in
     record {
-      value = sym (counted_whole c.args.text.now c.args.places.now c.args.count c.args.at c.reading-1.given.0.0 l (sym c.next_entries-reading.ensures.value ∙ c.reading-1.given.1));
+      value = sym (counted_whole c.args.text.now c.args.places.now c.args.count c.args.at c.in-Whole.next l (sym c.in-Whole.ensures.value));
       places_after = ap (λ (xs : List ℕ). xs ++ drop c.args.count c.args.places.now) c.next_entries-reading.ensures.places_after ∙ sym (filled_start_lem c.args.text.now c.args.places.now c.args.count c.args.at l);
     }
 
@@ -36,6 +36,6 @@ pub returns-in-Bad : goal.returns-in-Bad
 returns-in-Bad c =
     let l : c.args.count ≤ length c.args.places.now = c.if-count-places.false in
     record {
-      value = sym (counted_bad c.args.text.now c.args.places.now c.args.count c.args.at c.reading-in-Bad-1.given.0.0 l (sym c.next_entries-reading.ensures.value ∙ c.reading-in-Bad-1.given.1));
+      value = sym (counted_bad c.args.text.now c.args.places.now c.args.count c.args.at c.in-Bad.offset l (sym c.in-Bad.ensures.value));
       places_after = ap (λ (xs : List ℕ). xs ++ drop c.args.count c.args.places.now) c.next_entries-reading.ensures.places_after ∙ sym (filled_start_lem c.args.text.now c.args.places.now c.args.count c.args.at l);
     }

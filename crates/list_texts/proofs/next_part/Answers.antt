@@ -7,7 +7,7 @@ use Rattle.list_texts.proofs.next_part.Goals as goal
 pub returns-in-Value : goal.returns-in-Value
 unfolding next_part filled_part
 returns-in-Value c =
-    let h = sym c.next_entry-entry.ensures ∙ c.entry-1.given.1 in
+    let h = sym c.in-Value.ensures in
     record {
       value = c.counted_words.ensures.value ∙ sym (rw h);
       places_after = c.counted_words.ensures.places_after ∙ sym (rw h);
@@ -16,7 +16,7 @@ returns-in-Value c =
 pub returns-in-Bad : goal.returns-in-Bad
 unfolding next_part filled_part
 returns-in-Bad c =
-    let h = sym c.next_entry-entry.ensures ∙ c.entry-in-Bad-1.given.1 in
+    let h = sym c.in-Bad.ensures in
     record {
       value = sym (rw h);
       places_after = sym (rw h);

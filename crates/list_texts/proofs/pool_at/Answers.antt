@@ -7,7 +7,7 @@ use Rattle.list_texts.proofs.pool_at.Goals as goal
 pub returns-in-Whole : goal.returns-in-Whole
 unfolding pool_at
 returns-in-Whole c =
-    let h = sym c.next_part-part.ensures.value ∙ c.part-1.given.1 in
+    let h = sym c.in-Whole.ensures.value in
     record {
       value = sym (rw h);
       pool_after = c.next_part-part.ensures.places_after;
@@ -16,7 +16,7 @@ returns-in-Whole c =
 pub returns-in-Bad : goal.returns-in-Bad
 unfolding pool_at
 returns-in-Bad c =
-    let h = sym c.next_part-part.ensures.value ∙ c.part-in-Bad-1.given.1 in
+    let h = sym c.in-Bad.ensures.value in
     record {
       value = sym (rw h);
       pool_after = c.next_part-part.ensures.places_after;
@@ -25,7 +25,7 @@ returns-in-Bad c =
 pub returns-in-TooMany : goal.returns-in-TooMany
 unfolding pool_at
 returns-in-TooMany c =
-    let h = sym c.next_part-part.ensures.value ∙ c.part-in-TooMany-1.given.1 in
+    let h = sym c.in-TooMany.ensures.value in
     record {
       value = sym (rw h);
       pool_after = c.next_part-part.ensures.places_after;

@@ -6,12 +6,12 @@ use Rattle.list_texts.proofs.rest_from.Goals as goal
 
 pub returns-in-Value : goal.returns-in-Value
 unfolding rest_from
-returns-in-Value c = sym (rw (sym c.next_word-word.ensures ∙ c.enum_told-1.given.1))
+returns-in-Value c = sym (rw (sym c.in-Value.ensures))
 
 pub returns-in-End : goal.returns-in-End
 unfolding rest_from
-returns-in-End c = sym (rw (sym c.next_word-word.ensures ∙ c.enum_told-in-End-1.given.1))
+returns-in-End c = sym (rw (sym c.in-End.ensures))
 
 pub returns-in-Bad : goal.returns-in-Bad
 unfolding rest_from
-returns-in-Bad c = sym (rw (sym c.next_word-word.ensures ∙ c.word-1.given.1))
+returns-in-Bad c = sym (rw (sym c.in-Bad.ensures))

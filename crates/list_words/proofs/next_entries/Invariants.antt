@@ -1,4 +1,8 @@
 -- `next_entries` meets its contract. The invariant: what is left to read, from this place on, is answered as the whole is, and
+-- the places passed with those to come are as they are to be.
+use Rattle.std.proofs.Common.{◌≡◌, ◌≤◌, ◌-◌, length}
+use Rattle.decimals.specs.Places.{places_after}
+use Rattle.list_words.specs.Entries.{entries_from, next_entries, filled}
 use Rattle.list_words.proofs.next_entries.Given as goal
 
 abbrev pub invariant-loop-place : goal.invariant-loop-place

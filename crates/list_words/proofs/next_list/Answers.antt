@@ -7,7 +7,7 @@ use Rattle.list_words.proofs.next_list.Goals as goal
 
 pub returns-in-Whole : goal.returns-in-Whole
 returns-in-Whole c =
-    let h = sym c.next_entries-reading.ensures.value ∙ c.reading-1.given.1 in
+    let h = sym c.in-Whole.ensures.value in
     record {
       value = c.next_entries.ensures.value ∙ sym (list_goes c.args.text.now c.args.at (length c.args.nodes.now) (length c.args.pool.now) _ h);
       nodes_after = c.next_entries-reading.ensures.places_after;
@@ -16,7 +16,7 @@ returns-in-Whole c =
 
 pub returns-in-Bad : goal.returns-in-Bad
 returns-in-Bad c =
-    let h = sym c.next_entries-reading.ensures.value ∙ c.reading-in-Bad-1.given.1 in
+    let h = sym c.in-Bad.ensures.value in
     record {
       value = sym (list_breaks c.args.text.now c.args.at (length c.args.nodes.now) (length c.args.pool.now) _ h);
       nodes_after = c.next_entries-reading.ensures.places_after;

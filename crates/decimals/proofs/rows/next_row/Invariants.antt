@@ -1,4 +1,9 @@
 -- `next_row` meets its contract. The invariant: what is left to read, from this place on, is answered as the whole row is,
+-- and the places passed with those to come are the row as it is to be.
+use Rattle.std.proofs.Common.{◌≡◌, ◌≤◌, ◌-◌, length}
+use Rattle.decimals.specs.RowLaws.{end_at}
+use Rattle.decimals.specs.Places.{places_after}
+use Rattle.decimals.specs.Rows.{row_from, next_row, filled}
 use Rattle.decimals.proofs.rows.next_row.Given as goal
 
 abbrev pub invariant-loop-place : goal.invariant-loop-place
