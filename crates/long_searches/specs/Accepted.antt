@@ -1,7 +1,7 @@
 -- A list that the numbers 1 to 8 let pass, as a program asks before a search: yes or no, and what is left in the work
 -- space.
 use Rattle.std.specs.Prelude.{ℕ, ◌+◌, ◌*◌, ◌≤◌, ◌≡◌, ◌≢◌, List, Bool, true, false, cond, ◌&&◌, length, eqb}
-use Rattle.std.proofs.Common.{sym, eq-eqb, ne_eqb, eqb-true}
+use Rattle.std.proofs.Common.{eq-eqb, ne_eqb, eqb-true}
 use Rattle.std.proofs.Math.Path.{subst}
 use Rattle.std.proofs.Math.Bool.{and-eq-true_iff}
 use Rattle.meaning.specs.Rules.Limits.{work_per_node}

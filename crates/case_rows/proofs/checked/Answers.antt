@@ -2,7 +2,6 @@
 use mathlib.Core.Path.{◌≡◌, sym, ◌∙◌}
 use mathlib.Core.Bool.{true, false}
 use Rattle.case_rows.specs.CaseRows.{within}
-use borrow.Author.Rules.{rules}
 use Rattle.case_rows.proofs.checked.Goals as goal
 
 pub returns-then-is_within : goal.returns-then-is_within

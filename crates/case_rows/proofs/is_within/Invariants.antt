@@ -1,10 +1,8 @@
 -- `is_within` meets its contract. The invariant: the words from this place on are within where the whole row is.
-use mathlib.Core.Path.{◌≡◌, refl, sym, ◌∙◌}
+use mathlib.Core.Path.{◌≡◌}
 use Prim.Native.Nat.{◌-◌}
 use lib.ListN.{length, drop}
-use native.Mathlib.Omega.{arith}
-use Rattle.case_rows.specs.CaseRows.{within, within_more, within_stop, within_whole}
-use borrow.Author.Rules.{rules}
+use Rattle.case_rows.specs.CaseRows.{within}
 use Rattle.case_rows.proofs.is_within.Given as goal
 
 abbrev pub invariant-loop-place : goal.invariant-loop-place

@@ -4,11 +4,10 @@ use Prim.Native.Nat.{ℕ}
 use mathlib.Core.Path.{sym, ap, ◌∙◌}
 use Rattle.decimals.specs.declared.rows.Row.TheVariants.{Whole, End, Bad}
 use Rattle.case_rows.specs.CaseRows.{checked, case_row_is}
-use borrow.Author.Rules.{rules}
 use Rattle.case_rows.proofs.next_case_row.Goals as goal
 
 pub returns-in-Whole : goal.returns-in-Whole
-returns-in-Whole c = 
+returns-in-Whole c =
     record {
       value = c.checked.ensures
           ∙ ap (λ (xs : List ℕ). checked xs c.args.largest.now c.args.at c.in-Whole.next) c.next_row-reading.ensures.row_after
@@ -17,14 +16,14 @@ returns-in-Whole c =
     }
 
 pub returns-in-End : goal.returns-in-End
-returns-in-End c = 
+returns-in-End c =
     record {
       value = sym (case_row_is c.args.text.now c.args.at c.args.row.now c.args.largest.now End (sym c.in-End.ensures.value));
       row_after = c.next_row-reading.ensures.row_after;
     }
 
 pub returns-in-Bad : goal.returns-in-Bad
-returns-in-Bad c = 
+returns-in-Bad c =
     record {
       value = sym (case_row_is c.args.text.now c.args.at c.args.row.now c.args.largest.now (Bad _) (sym c.in-Bad.ensures.value));
       row_after = c.next_row-reading.ensures.row_after;

@@ -1,6 +1,5 @@
 -- `extends` meets its contract: not a digit on either side, and for a digit the test turned round.
 use Rattle.decimals.specs.Laws.{extends_low, extends_high, extends_digit}
-use borrow.Author.Rules.{rules}
 use mathlib.Core.Path.{sym}
 use Rattle.decimals.proofs.extends.Goals as goal
 

@@ -1,11 +1,9 @@
 -- `next_word` meets its contract. The invariant: the blanks passed over change nothing.
 use Rattle.decimals.specs.Laws.{word_end, word_blank, word_number}
-use Rattle.decimals.specs.Words.{word, next_word}
+use Rattle.decimals.specs.Words.{next_word}
 use borrow.Author.Tests.{not-true, not-false}
-use borrow.Author.Rules.{rules}
-use lib.ListN.{length, drop}
 use Prim.Native.Nat.{◌-◌}
-use mathlib.Core.Path.{◌≡◌, sym, refl, ◌∙◌}
+use mathlib.Core.Path.{sym, refl, ◌∙◌}
 use Rattle.decimals.proofs.next_word.Goals as goal
 
 pub loop-i-init : goal.loop-i-init

@@ -1,11 +1,8 @@
 -- `next_word` meets its contract. The invariant: the blanks passed over change nothing.
-use Rattle.decimals.specs.Laws.{word_end, word_blank, word_number}
-use Rattle.decimals.specs.Words.{word, next_word}
-use borrow.Author.Tests.{not-true, not-false}
-use borrow.Author.Rules.{rules}
+use Rattle.decimals.specs.Words.{word}
 use lib.ListN.{length, drop}
 use Prim.Native.Nat.{◌-◌}
-use mathlib.Core.Path.{◌≡◌, sym, refl, ◌∙◌}
+use mathlib.Core.Path.{◌≡◌}
 use Rattle.decimals.proofs.next_word.Given as goal
 
 abbrev pub invariant-loop-i : goal.invariant-loop-i

@@ -1,11 +1,8 @@
 -- `number_from` meets its contract. The invariant: what is left to read, from the value so far, is what was to be read.
 use Rattle.decimals.specs.Laws.{number_end, number_blank, number_bad, number_more}
-use Rattle.decimals.specs.Words.{number}
 use borrow.Author.Tests.{not-true, not-false}
-use borrow.Author.Rules.{rules}
-use lib.ListN.{length, drop}
 use Prim.Native.Nat.{◌-◌}
-use mathlib.Core.Path.{◌≡◌, sym, refl, ◌∙◌}
+use mathlib.Core.Path.{sym, refl, ◌∙◌}
 use Rattle.decimals.proofs.number_from.Goals as goal
 
 pub loop-i-init : goal.loop-i-init

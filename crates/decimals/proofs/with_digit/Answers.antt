@@ -1,6 +1,5 @@
 -- `with_digit` meets its contract: what it requires is that neither the product nor the sum wraps.
 use Rattle.decimals.specs.Laws.{extends_is}
-use borrow.Author.Rules.{rules}
 use native.Mathlib.Omega.{arith}
 use Rattle.decimals.proofs.with_digit.Goals as goal
 

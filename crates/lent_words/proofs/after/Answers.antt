@@ -1,6 +1,5 @@
 -- `after` meets its contract.
 use mathlib.Core.Path.{◌∙◌}
-use borrow.Author.Rules.{rules}
 use Rattle.lent_words.proofs.after.Goals as goal
 
 pub returns : goal.returns

@@ -1,11 +1,9 @@
 -- `is_left` meets its contract. The invariant: the words from this place on are judged as the whole is.
 use Rattle.lent_words.specs.LentLaws.{left_more, left_stop, left_whole}
-use Rattle.lent_words.specs.Lent.{wide, left}
-use borrow.Author.Rules.{rules}
+use Rattle.lent_words.specs.Lent.{wide}
 use native.Mathlib.Omega.{arith}
-use lib.ListN.{length, drop}
 use Prim.Native.Nat.{◌-◌}
-use mathlib.Core.Path.{◌≡◌, refl, sym, ◌∙◌}
+use mathlib.Core.Path.{refl, sym, ◌∙◌}
 use Rattle.lent_words.proofs.is_left.Goals as goal
 
 pub loop-place-init : goal.loop-place-init

@@ -9,7 +9,6 @@ use lib.Dec.{leb}
 use borrow.Author.Tests.{lt-leb}
 use Rattle.list_texts.specs.CountedLaws.{counted_whole, counted_bad, filled_start_lem}
 use Rattle.list_texts.specs.Counted.{counted_words, filled_start}
-use borrow.Author.Rules.{rules}
 use Rattle.list_texts.proofs.counted_words.Goals as goal
 
 pub returns-then-count-places : goal.returns-then-count-places

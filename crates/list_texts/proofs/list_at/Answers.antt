@@ -3,7 +3,6 @@ use Rattle.list_texts.specs.Counted.{list_at, filled_pool, Fits}
 use Rattle.list_texts.specs.CountedLaws.{list_fits}
 use lib.ListN.{length}
 use mathlib.Core.Path.{◌≡◌, sym, ◌∙◌, subst}
-use borrow.Author.Rules.{rules}
 use Rattle.list_texts.proofs.list_at.Goals as goal
 
 pub returns-in-Whole : goal.returns-in-Whole

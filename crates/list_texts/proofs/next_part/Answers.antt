@@ -1,7 +1,6 @@
 -- `next_part` meets its contract: by the count.
 use mathlib.Core.Path.{sym, ◌∙◌}
 use Rattle.list_texts.specs.Counted.{next_part, filled_part}
-use borrow.Author.Rules.{rules}
 use Rattle.list_texts.proofs.next_part.Goals as goal
 
 pub returns-in-Value : goal.returns-in-Value

@@ -1,7 +1,6 @@
 -- `pool_at` meets its contract: by what the pool's part is.
 use Rattle.list_texts.specs.Counted.{pool_at}
-use mathlib.Core.Path.{sym, ◌∙◌}
-use borrow.Author.Rules.{rules}
+use mathlib.Core.Path.{sym}
 use Rattle.list_texts.proofs.pool_at.Goals as goal
 
 pub returns-in-Whole : goal.returns-in-Whole

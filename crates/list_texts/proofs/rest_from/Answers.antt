@@ -1,7 +1,6 @@
 -- `rest_from` meets its contract: by the word that stands there.
-use mathlib.Core.Path.{sym, ◌∙◌}
+use mathlib.Core.Path.{sym}
 use Rattle.list_texts.specs.Counted.{rest_from}
-use borrow.Author.Rules.{rules}
 use Rattle.list_texts.proofs.rest_from.Goals as goal
 
 pub returns-in-Value : goal.returns-in-Value

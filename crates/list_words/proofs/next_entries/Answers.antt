@@ -1,14 +1,13 @@
 -- `next_entries` meets its contract. The invariant: what is left to read, from this place on, is answered as the whole is, and
 -- the places passed with those to come are as they are to be.
 use Rattle.list_words.proofs.next_entries.Goals as goal
-use mathlib.Core.Path.{◌≡◌, refl, sym, ◌∙◌}
-use Prim.Native.Nat.{◌≤◌, ◌-◌}
+use mathlib.Core.Path.{refl, sym, ◌∙◌}
+use Prim.Native.Nat.{◌-◌}
 use lib.ListN.{length, drop, length-set}
 use native.Mathlib.Omega.{arith}
-use borrow.Author.Rules.{rules}
 use Rattle.list_words.specs.EntryLaws.{entries_start, entries_more, entries_bad, entries_whole, filled_bad, filled_value, filled_whole}
 use Rattle.decimals.specs.Places.{places_after, places_more, places_stop}
-use Rattle.list_words.specs.Entries.{entries_from, next_entries, filled}
+use Rattle.list_words.specs.Entries.{filled}
 
 pub loop-place-init : goal.loop-place-init
 loop-place-init c = (omega arith, refl, refl, entries_start c.args.text.now (length c.args.places.now) c.args.at, refl)

@@ -2,7 +2,6 @@
 use lib.ListN.{length}
 use mathlib.Core.Path.{sym, ◌∙◌}
 use Rattle.list_words.specs.EntryLaws.{list_goes, list_breaks, pool_goes, pool_breaks}
-use borrow.Author.Rules.{rules}
 use Rattle.list_words.proofs.next_list.Goals as goal
 
 pub returns-in-Whole : goal.returns-in-Whole

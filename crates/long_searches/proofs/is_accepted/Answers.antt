@@ -9,7 +9,6 @@ use Rattle.meaning.specs.declared.Refusal.{Refusal}
 use Rattle.meaning.specs.Rules.Layout.{sizes}
 use Rattle.meaning.specs.Rules.Evaluable.{sound}
 use Rattle.long_searches.specs.Accepted.{refused_by_size, work_untouched, then_by_sound, work_of_sound}
-use borrow.Author.Rules.{rules}
 use Rattle.long_searches.proofs.is_accepted.Goals as goal
 
 pub returns-then-sized-ne-DONE : goal.returns-then-sized-ne-DONE

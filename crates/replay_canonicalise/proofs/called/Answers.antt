@@ -2,7 +2,6 @@
 use mathlib.Core.Path.{◌∙◌}
 use native.Mathlib.Omega.{arith}
 use Rattle.canonicaliser.specs.Outcome.{answer_fits}
-use borrow.Author.Rules.{rules}
 use Rattle.replay_canonicalise.proofs.called.Goals as goal
 
 pub verdict_on-requires : goal.verdict_on-requires

@@ -1,10 +1,7 @@
 -- `compared` meets its contract: reading the list does not go back, nor past the text's end.
-use Rattle.replay_canonicalise.specs.Written.{ReadOn}
-use lib.ListN.{length}
 use lib.Seq.{length-take-le}
-use mathlib.Core.Path.{sym, subst}
+use mathlib.Core.Path.{sym}
 use native.Mathlib.Omega.{arith}
-use borrow.Author.Rules.{rules}
 use Rattle.replay_canonicalise.proofs.compared.Goals as goal
 
 pub slice_bounds-next_written-end : goal.slice_bounds-next_written-end

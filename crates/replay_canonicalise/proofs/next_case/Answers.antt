@@ -6,7 +6,6 @@ use native.Mathlib.Omega.{arith}
 use Rattle.case_rows.specs.CaseRows.{case_row_gives}
 use Rattle.replay_report.specs.Turns.{ok_from}
 use Rattle.replay_canonicalise.specs.Cases.{largest}
-use borrow.Author.Rules.{rules}
 use Rattle.replay_canonicalise.proofs.next_case.Goals as goal
 
 pub in_room-requires : goal.in_room-requires

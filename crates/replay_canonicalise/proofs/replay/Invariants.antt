@@ -1,9 +1,6 @@
 -- `replay` is safe and ends, by what each turn of its tally gives.
 use lib.ListN.{length}
-use native.Mathlib.Omega.{arith}
-use mathlib.Core.Path.{sym, ◌∙◌}
-use Rattle.replay_report.specs.Tallies.{Within, ahead, started_within, within_countable, one_turn}
-use borrow.Author.Rules.{rules}
+use Rattle.replay_report.specs.Tallies.{Within, ahead}
 use Rattle.replay_canonicalise.proofs.replay.Given as goal
 
 abbrev pub invariant-loop-tally : goal.invariant-loop-tally

@@ -2,8 +2,7 @@
 use Rattle.replay_report.specs.Turns.{ok_from}
 use Rattle.list_words.specs.EntryLaws.{list_ahead}
 use lib.ListN.{length}
-use mathlib.Core.Path.{sym, ◌∙◌}
-use borrow.Author.Rules.{rules}
+use mathlib.Core.Path.{sym}
 use Rattle.replay_canonicalise.proofs.tried.Goals as goal
 
 pub with_space-requires : goal.with_space-requires

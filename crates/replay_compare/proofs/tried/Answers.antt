@@ -1,8 +1,4 @@
 -- `tried` meets its contract: reading the lists does not go back, nor past the text's end.
-use lib.ListN.{length}
-use mathlib.Core.Path.{subst}
-use Rattle.replay_compare.specs.Lists.{Reaches}
-use borrow.Author.Rules.{rules}
 use Rattle.replay_compare.proofs.tried.Goals as goal
 
 pub with_space-requires : goal.with_space-requires

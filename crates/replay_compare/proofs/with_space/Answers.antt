@@ -4,7 +4,6 @@ use lib.ListN.{get_or}
 use native.Mathlib.Omega.{arith}
 use mathlib.Core.Path.{sym}
 use Rattle.replay_compare.specs.Cases.{work_fits}
-use borrow.Author.Rules.{rules}
 use Rattle.replay_compare.proofs.with_space.Goals as goal
 
 pub slice_bounds-work-end : goal.slice_bounds-work-end

@@ -1,10 +1,7 @@
 -- `compared` meets its contract: reading the pairs does not go back, nor past the text's end.
-use Rattle.replay_evaluate.specs.Pairs.{ReadOn}
-use mathlib.Core.Path.{sym, subst}
+use mathlib.Core.Path.{sym}
 use native.Mathlib.Omega.{arith}
 use lib.Seq.{length-take-le}
-use lib.ListN.{length}
-use borrow.Author.Rules.{rules}
 use Rattle.replay_evaluate.proofs.compared.Goals as goal
 
 pub slice_bounds-next_pairs-end : goal.slice_bounds-next_pairs-end

@@ -2,8 +2,7 @@
 use lib.ListN.{length}
 use native.Mathlib.Omega.{arith}
 use mathlib.Core.Path.{sym, ◌∙◌}
-use Rattle.replay_report.specs.Tallies.{Within, ahead, started_within, within_countable, one_turn}
-use borrow.Author.Rules.{rules}
+use Rattle.replay_report.specs.Tallies.{started_within, within_countable, one_turn}
 use Rattle.replay_evaluate.proofs.replay.Goals as goal
 
 pub loop-tally-init : goal.loop-tally-init

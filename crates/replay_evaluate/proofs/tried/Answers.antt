@@ -1,9 +1,6 @@
 -- `tried` meets its contract: a case is tried from where its list and bytes end.
 use Rattle.replay_report.specs.Turns.{ok_from}
-use Rattle.replay_evaluate.specs.Inputs.{Reaches}
-use mathlib.Core.Path.{subst}
 use lib.ListN.{length}
-use borrow.Author.Rules.{rules}
 use Rattle.replay_evaluate.proofs.tried.Goals as goal
 
 pub with_space-requires : goal.with_space-requires

@@ -1,6 +1,5 @@
 -- `is_expected` meets its contract: the words are looked at where the work space is as expected.
 use mathlib.Core.Path.{refl, ◌∙◌}
-use borrow.Author.Rules.{rules}
 use Rattle.replay_results.proofs.is_expected.Goals as goal
 
 pub returns-then-work : goal.returns-then-work

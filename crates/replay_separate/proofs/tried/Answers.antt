@@ -1,8 +1,7 @@
 -- `tried` meets its contract: reading the list does not go back, nor past the text's end.
 use Rattle.list_words.specs.EntryLaws.{list_ahead}
-use mathlib.Core.Path.{sym, ◌∙◌}
+use mathlib.Core.Path.{sym}
 use lib.ListN.{length}
-use borrow.Author.Rules.{rules}
 use Rattle.replay_separate.proofs.tried.Goals as goal
 
 pub with_space-requires : goal.with_space-requires

@@ -4,7 +4,6 @@ use lib.ListN.{get_or}
 use native.Mathlib.Omega.{arith}
 use mathlib.Core.Path.{sym}
 use Rattle.replay_separate.specs.Cases.{work_fits, n_fits, marks_fit}
-use borrow.Author.Rules.{rules}
 use Rattle.replay_separate.proofs.with_space.Goals as goal
 
 pub bounds_of-requires : goal.bounds_of-requires

@@ -1,10 +1,7 @@
 -- `next_case` meets its contract: a case begins with a row that fits, and gets on behind it.
-use lib.ListN.{length}
-use Prim.Native.Nat.{◌+◌}
 use native.Mathlib.Omega.{arith}
 use Rattle.case_rows.specs.CaseRows.{case_row_gives}
 use mathlib.Core.Path.{refl}
-use borrow.Author.Rules.{rules}
 use Rattle.replay_tables.proofs.next_case.Goals as goal
 
 pub returns-in_ok-tried-in-Whole : goal.returns-in_ok-tried-in-Whole

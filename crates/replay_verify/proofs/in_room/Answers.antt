@@ -4,7 +4,6 @@ use lib.ListN.{get_or}
 use native.Mathlib.Omega.{arith}
 use mathlib.Core.Path.{sym}
 use Rattle.replay_verify.specs.Cases.{words_fit, entries_fit}
-use borrow.Author.Rules.{rules}
 use Rattle.replay_verify.proofs.in_room.Goals as goal
 
 pub slice_bounds-nodes-end : goal.slice_bounds-nodes-end

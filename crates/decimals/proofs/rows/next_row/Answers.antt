@@ -2,13 +2,12 @@
 -- and the places passed with those to come are the row as it is to be.
 use Rattle.decimals.proofs.rows.next_row.Goals as goal
 use Rattle.decimals.specs.RowLaws.{end_at, row_start, row_more, row_end, row_bad, row_whole, filled_end, filled_bad, filled_value, filled_whole}
-use Rattle.decimals.specs.Places.{places_after, places_more, places_stop}
-use Rattle.decimals.specs.Rows.{row_from, next_row, filled}
-use borrow.Author.Rules.{rules}
+use Rattle.decimals.specs.Places.{places_more, places_stop}
+use Rattle.decimals.specs.Rows.{filled}
 use native.Mathlib.Omega.{arith}
 use lib.ListN.{length, drop, length-set}
-use Prim.Native.Nat.{◌≤◌, ◌-◌}
-use mathlib.Core.Path.{◌≡◌, refl, sym, ◌∙◌}
+use Prim.Native.Nat.{◌-◌}
+use mathlib.Core.Path.{refl, sym, ◌∙◌}
 
 pub loop-place-init : goal.loop-place-init
 loop-place-init c = (omega arith, refl, refl, row_start c.args.text.now (length c.args.row.now) c.args.at, refl)

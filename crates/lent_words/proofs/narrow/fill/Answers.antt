@@ -1,11 +1,10 @@
 -- `fill` meets its contract. The invariant: the places passed, with those to come filled, are as all are to be.
-use Rattle.lent_words.specs.LentLaws.{filled_from, filled_more, filled_whole}
-use Rattle.lent_words.specs.Lent.{narrow, filled}
-use borrow.Author.Rules.{rules}
+use Rattle.lent_words.specs.LentLaws.{filled_more, filled_whole}
+use Rattle.lent_words.specs.Lent.{narrow}
 use native.Mathlib.Omega.{arith}
-use lib.ListN.{length, length-set}
-use Prim.Native.Nat.{◌≤◌, ◌-◌}
-use mathlib.Core.Path.{◌≡◌, refl, sym, ◌∙◌}
+use lib.ListN.{length-set}
+use Prim.Native.Nat.{◌-◌}
+use mathlib.Core.Path.{refl, sym, ◌∙◌}
 use Rattle.lent_words.proofs.narrow.fill.Goals as goal
 
 pub loop-place-init : goal.loop-place-init

@@ -1,11 +1,9 @@
 -- `fill` meets its contract. The invariant: the places passed, with those to come filled, are as all are to be.
-use Rattle.lent_words.specs.LentLaws.{filled_from, filled_more, filled_whole}
+use Rattle.lent_words.specs.LentLaws.{filled_from}
 use Rattle.lent_words.specs.Lent.{narrow, filled}
-use borrow.Author.Rules.{rules}
-use native.Mathlib.Omega.{arith}
-use lib.ListN.{length, length-set}
+use lib.ListN.{length}
 use Prim.Native.Nat.{◌≤◌, ◌-◌}
-use mathlib.Core.Path.{◌≡◌, refl, sym, ◌∙◌}
+use mathlib.Core.Path.{◌≡◌}
 use Rattle.lent_words.proofs.narrow.fill.Given as goal
 
 abbrev pub invariant-loop-place : goal.invariant-loop-place

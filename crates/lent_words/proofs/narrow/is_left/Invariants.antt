@@ -1,12 +1,9 @@
 -- `is_left` meets its contract. The invariant: the words from this place on are judged as the whole is.
-use Rattle.lent_words.specs.LentLaws.{left_more, left_stop, left_whole}
 use Rattle.lent_words.specs.Lent.{narrow, left}
-use borrow.Author.Rules.{rules}
-use native.Mathlib.Omega.{arith}
 use lib.ListN.{length, drop}
 use Prim.Native.Nat.{◌-◌}
 use mathlib.Core.Bool.{false}
-use mathlib.Core.Path.{◌≡◌, refl, sym, ◌∙◌}
+use mathlib.Core.Path.{◌≡◌}
 use Rattle.lent_words.proofs.narrow.is_left.Given as goal
 
 abbrev pub invariant-loop-place : goal.invariant-loop-place

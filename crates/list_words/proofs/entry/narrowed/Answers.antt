@@ -4,7 +4,6 @@ use borrow.Author.Tests.{le-leb, lt-leb}
 use mathlib.Core.Bool.{true, false}
 use lib.Dec.{leb}
 use mathlib.Core.Path.{◌≡◌}
-use borrow.Author.Rules.{rules}
 use Rattle.list_words.proofs.entry.narrowed.Goals as goal
 
 pub returns-then-value-gt-LARGEST : goal.returns-then-value-gt-LARGEST

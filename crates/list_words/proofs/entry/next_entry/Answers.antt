@@ -1,7 +1,6 @@
 -- `next_entry` meets its contract: by what stands in the text.
 use Rattle.list_words.specs.Entries.{next_entry}
 use mathlib.Core.Path.{sym, ◌∙◌}
-use borrow.Author.Rules.{rules}
 use Rattle.list_words.proofs.entry.next_entry.Goals as goal
 
 pub returns-in-Value : goal.returns-in-Value

@@ -10,7 +10,6 @@ use Rattle.meaning.specs.Rules.Trees.{node_count}
 use Rattle.rows.specs.Rows.{Prepared}
 use Rattle.long_searches.specs.Accepted.{work_left, accepted_prepares}
 use Rattle.long_searches.specs.Shown.{none_shown, all_shown}
-use borrow.Author.Rules.{rules}
 use Rattle.long_searches.proofs.variables.variables_below.Goals as goal
 
 pub get_input_set-requires : goal.get_input_set-requires

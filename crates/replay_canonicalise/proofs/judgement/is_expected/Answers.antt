@@ -1,7 +1,6 @@
 -- `is_expected` meets its contract: the words are looked at where all else is as expected.
 use borrow.Author.Tests.{not-true, not-false}
 use mathlib.Core.Path.{refl, ◌∙◌}
-use borrow.Author.Rules.{rules}
 use Rattle.replay_canonicalise.proofs.judgement.is_expected.Goals as goal
 
 pub returns-then-not-seen : goal.returns-then-not-seen

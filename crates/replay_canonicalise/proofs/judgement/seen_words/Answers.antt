@@ -1,6 +1,5 @@
 -- `seen_words` meets its contract: the four words of the answer, and the verdict.
 use mathlib.Core.Path.{refl}
-use borrow.Author.Rules.{rules}
 use Rattle.replay_canonicalise.proofs.judgement.seen_words.Goals as goal
 
 pub returns : goal.returns

@@ -3,7 +3,6 @@ use Rattle.replay_canonicalise.specs.Verdicts.{said}
 use Rattle.meaning.specs.Rules.Calls.{Compared}
 use borrow.Author.Tests.{eq-eqb, ne_eqb}
 use mathlib.Core.Path.{ap, ◌∙◌}
-use borrow.Author.Rules.{rules}
 use Rattle.replay_canonicalise.proofs.verdicts.verdict_in.Goals as goal
 
 pub returns-then-refusal-ne-DONE : goal.returns-then-refusal-ne-DONE

@@ -1,7 +1,6 @@
 -- `verdict_on` lends parts that are there, since the counts are within the outputs.
 use lib.Seq.{length-take-le}
 use mathlib.Core.Path.{sym}
-use borrow.Author.Rules.{rules}
 use Rattle.replay_canonicalise.proofs.verdicts.verdict_on.Goals as goal
 
 pub slice_bounds-verdict_in-end : goal.slice_bounds-verdict_in-end

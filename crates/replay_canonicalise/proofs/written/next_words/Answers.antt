@@ -1,10 +1,8 @@
 -- `next_words` meets its contract. The invariant: reading has not gone back, nor past the text's end.
 use Rattle.list_words.specs.EntryLaws.{entry_ahead}
-use mathlib.Core.Path.{◌≡◌, refl, sym, ◌∙◌}
-use Prim.Native.Nat.{◌≤◌, ◌-◌}
-use lib.ListN.{length}
+use mathlib.Core.Path.{refl, sym}
+use Prim.Native.Nat.{◌-◌}
 use native.Mathlib.Omega.{arith}
-use borrow.Author.Rules.{rules}
 use Rattle.replay_canonicalise.proofs.written.next_words.Goals as goal
 
 pub loop-place-init : goal.loop-place-init

@@ -1,10 +1,7 @@
 -- `next_words` meets its contract. The invariant: reading has not gone back, nor past the text's end.
-use Rattle.list_words.specs.EntryLaws.{entry_ahead}
-use mathlib.Core.Path.{◌≡◌, refl, sym, ◌∙◌}
+use mathlib.Core.Path.{◌≡◌}
 use Prim.Native.Nat.{◌≤◌, ◌-◌}
 use lib.ListN.{length}
-use native.Mathlib.Omega.{arith}
-use borrow.Author.Rules.{rules}
 use Rattle.replay_canonicalise.proofs.written.next_words.Given as goal
 
 abbrev pub invariant-loop-place : goal.invariant-loop-place

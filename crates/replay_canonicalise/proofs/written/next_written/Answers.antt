@@ -1,8 +1,6 @@
 -- `next_written` meets its contract: reading does not go back, nor past the text's end.
-use Rattle.replay_canonicalise.specs.Written.{ReadOn, read_on_from}
+use Rattle.replay_canonicalise.specs.Written.{read_on_from}
 use lib.ListN.{length}
-use mathlib.Core.Path.{subst}
-use borrow.Author.Rules.{rules}
 use Rattle.replay_canonicalise.proofs.written.next_written.Goals as goal
 
 pub next_words-requires : goal.next_words-requires

@@ -1,8 +1,7 @@
 -- `next_byte` meets its contract: a word ends past where reading began.
 use Rattle.list_words.specs.EntryLaws.{entry_ahead}
-use mathlib.Core.Path.{sym, ◌∙◌}
+use mathlib.Core.Path.{sym}
 use native.Mathlib.Omega.{arith}
-use borrow.Author.Rules.{rules}
 use Rattle.replay_evaluate.proofs.inputs.next_byte.Goals as goal
 
 pub returns-else-value-gt-LARGEST_BYTE : goal.returns-else-value-gt-LARGEST_BYTE

@@ -1,10 +1,8 @@
 -- `next_bytes` meets its contract. The invariant: reading has not gone back, nor past the text's end.
-use Rattle.replay_evaluate.specs.Inputs.{ByteAhead}
-use borrow.Author.Rules.{rules}
 use native.Mathlib.Omega.{arith}
-use lib.ListN.{length, length-set}
-use Prim.Native.Nat.{◌≤◌, ◌-◌}
-use mathlib.Core.Path.{◌≡◌, refl, subst}
+use lib.ListN.{length-set}
+use Prim.Native.Nat.{◌-◌}
+use mathlib.Core.Path.{refl}
 use Rattle.replay_evaluate.proofs.inputs.next_bytes.Goals as goal
 
 pub loop-place-init : goal.loop-place-init

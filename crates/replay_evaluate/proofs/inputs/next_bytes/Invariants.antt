@@ -1,10 +1,7 @@
 -- `next_bytes` meets its contract. The invariant: reading has not gone back, nor past the text's end.
-use Rattle.replay_evaluate.specs.Inputs.{ByteAhead}
-use borrow.Author.Rules.{rules}
-use native.Mathlib.Omega.{arith}
-use lib.ListN.{length, length-set}
+use lib.ListN.{length}
 use Prim.Native.Nat.{◌≤◌, ◌-◌}
-use mathlib.Core.Path.{◌≡◌, refl, subst}
+use mathlib.Core.Path.{◌≡◌}
 use Rattle.replay_evaluate.proofs.inputs.next_bytes.Given as goal
 
 abbrev pub invariant-loop-place : goal.invariant-loop-place

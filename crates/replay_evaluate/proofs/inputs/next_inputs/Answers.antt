@@ -3,9 +3,8 @@ use Rattle.replay_evaluate.specs.Inputs.{reaches_from}
 use Rattle.list_words.specs.EntryLaws.{list_ahead}
 use Rattle.list_words.specs.Entries.{next_list}
 use Rattle.list_words.specs.declared.Entries.TheVariants.{Whole}
-use mathlib.Core.Path.{◌≡◌, sym, ◌∙◌}
+use mathlib.Core.Path.{◌≡◌, sym}
 use lib.ListN.{length}
-use borrow.Author.Rules.{rules}
 use Rattle.replay_evaluate.proofs.inputs.next_inputs.Goals as goal
 
 pub next_bytes-requires : goal.next_bytes-requires

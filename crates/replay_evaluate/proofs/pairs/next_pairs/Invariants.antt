@@ -1,10 +1,7 @@
 -- `next_pairs` meets its contract. The invariant: reading has not gone back, nor past the text's end.
-use Rattle.decimals.specs.Claims.{value_ahead}
-use borrow.Author.Rules.{rules}
-use native.Mathlib.Omega.{arith}
 use lib.ListN.{length}
 use Prim.Native.Nat.{◌≤◌, ◌-◌}
-use mathlib.Core.Path.{◌≡◌, refl, sym, ◌∙◌}
+use mathlib.Core.Path.{◌≡◌}
 use Rattle.replay_evaluate.proofs.pairs.next_pairs.Given as goal
 
 abbrev pub invariant-loop-place : goal.invariant-loop-place

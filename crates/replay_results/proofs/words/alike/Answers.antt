@@ -1,10 +1,8 @@
 -- `alike` meets its contract. The invariant: the words from this place on are alike where the whole rows are.
-use mathlib.Core.Path.{◌≡◌, refl, sym, ◌∙◌}
+use mathlib.Core.Path.{refl, sym, ◌∙◌}
 use Prim.Native.Nat.{◌-◌}
-use lib.ListN.{length, drop}
 use native.Mathlib.Omega.{arith}
 use Rattle.replay_results.specs.Alike as words
-use borrow.Author.Rules.{rules}
 use Rattle.replay_results.proofs.words.alike.Goals as goal
 
 pub returns-then-one-other : goal.returns-then-one-other

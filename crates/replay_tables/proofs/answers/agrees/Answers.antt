@@ -1,5 +1,4 @@
 -- `agrees` is safe: the count of input bytes is within the eight that there are.
-use borrow.Author.Rules.{rules}
 use lib.Seq.{length-take-le}
 use native.Mathlib.Omega.{arith}
 use mathlib.Core.Path.{sym}

@@ -1,9 +1,7 @@
 -- `input_bytes` is safe, and keeps the length.
-use borrow.Author.Rules.{rules}
-use native.Mathlib.Omega.{arith}
-use lib.ListN.{length, length-set}
+use lib.ListN.{length}
 use Prim.Native.Nat.{◌≤◌, ◌-◌}
-use mathlib.Core.Path.{◌≡◌, refl}
+use mathlib.Core.Path.{◌≡◌}
 use Rattle.replay_tables.proofs.answers.input_bytes.Given as goal
 
 abbrev pub invariant-loop-i : goal.invariant-loop-i
