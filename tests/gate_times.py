@@ -3,10 +3,10 @@
 usage: rt ci --anew | tee LOG; python3 tests/gate_times.py LOG WALL CHECKS
        WALL: how long the gate took, as in "16 min 40 s"; CHECKS: what tests/check_times.py --all wrote of every crate
 
-Writes docs/GATE.md from what the gate and the checks wrote: for each crate, in the order of crates.txt, its functions, the
-modules of proved libraries that its check read, how many edits must fail, and the seconds of its check by itself. The
-gate runs several at a time and says of none how long it took. Of a crate that it keeps from an earlier run it says nothing,
-so it is run with --anew. A gate that is not green has no times.
+Writes docs/GATE.md from what the gate and the checks wrote: for each crate, in the order of crates.txt, its functions,
+the modules of proved libraries that its check read, how many edits must fail, and the seconds of its check by itself.
+The gate runs several at a time and says of none how long it took. Of a crate that it keeps from an earlier run it says
+nothing, so it is run with --anew. A gate that is not green has no times.
 """
 import os
 import re

@@ -9,7 +9,7 @@ from trial import REFUSED, groups, tried
 
 
 def prove(crates):
-    """Has the tree's crates proved that the wrong answers are of, and those below; what is unchanged is not proved again."""
+    """Has the crates proved that the wrong answers are of, and those below; what is unchanged is not proved again."""
     print(f"seeing that {len(crates)} crates are proved as they stand", flush=True)
     for crate in sorted(crates):
         with held("prove"):
