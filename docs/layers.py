@@ -42,10 +42,11 @@ def read_crates(text):
 
 
 def crate_of(line, comment, part):
-    name, colon, uses = line.partition(":")
-    if not colon or not part:
-        raise BadSource(f"no colon in the line, or no title over it: {line}")
-    return Crate(name.strip(), uses.split(), comment, part)
+    head, colon, uses = line.partition(":")
+    if not colon or not head.strip() or not part:
+        raise BadSource(f"no name and colon in the line, or no title over it: {line}")
+    # behind the name may stand what kind of library it is
+    return Crate(head.split()[0], uses.split(), comment, part)
 
 
 def require_order(crates):

@@ -2,10 +2,14 @@
 
 usage: python3 tests/check_times.py [--all] CRATE..
 
-Checks each crate from nothing by `rt dev`, over an empty target/inc/NAME, and reads when each module was stored there.
-What rests on no module of the crate's own (start, the libraries' modules, the end) is "reading". Of a function `walk` is
-the kit's walk of its code and what it makes of it, `proof` is its file in proofs; of the crate `specs` are its
-definitions and laws, `shared` proofs of no one function. Seconds are by the wall clock, so nothing else should run.
+Checks each crate from nothing by `rt check`, over an empty crates/NAME/out/incremental, and reads when each module was
+stored there. The libraries below are made beforehand. What rests on no module of the crate's own (start, the libraries'
+modules, the end) is "reading". Of a function `walk` is the kit's walk of its code and what it makes of it, `proof` are
+its files in proofs and the goals that the kit answers by itself; of the crate `specs` are its definitions and laws,
+`shared` proofs of no one function. Seconds are by the wall clock, so nothing else should run.
+
+`rt check` begins with what a check in another copy of the repository kept on this machine. It says so, and then nothing
+can be timed: remove the out/ folders of the copies.
 
 Without --all a crate has the five slowest functions, with it every one.
 """
@@ -19,15 +23,27 @@ import time
 ROOT = os.path.join(os.path.dirname(os.path.abspath(__file__)), "..")
 SLOWEST = 5
 # a stored module: of the crate's proofs or specs, by its path
-STORED = re.compile(r"^Rattle·(\w+)·(specs|proofs)\.(?:specs|proofs)\.(.*?)(?:\.decls)?\.oantt$")
+STORED = re.compile(r"^Rattle-(\w+)[-.](specs|proofs)\.(.*?)(?:\.decls)?\.oantt$")
 # what the kit makes of each function; of functions that call one another one Lts for each
-MADE = re.compile(r"(Code|Key|Kinds|Named|Layout|Lts|Symbol|Statement|Reads|Tie|Met)\b")
+MADE = re.compile(r"(Code|Key|Kinds|Named|Layout|Lts|Symbol|Statement|Reads|Tie|Met|Given|Goals|TheLink)\b")
+# the work of another copy
+BEGUN = re.compile(r"^rt: (\w+): begins with what a check kept in (\S+)$", re.M)
+
+
+def folder_of(name):
+    return os.path.join(ROOT, "crates", name)
+
+
+def kept(name):
+    """Where its checks keep what they proved."""
+    return os.path.join(folder_of(name), "out", "incremental")
 
 
 def stored(name):
     """When each module of the crate was stored, in order: seconds and its name."""
     found = []
-    for folder, _, files in os.walk(os.path.join(ROOT, "target", "inc", name)):
+    for folder, folders, files in os.walk(kept(name)):
+        folders[:] = [inner for inner in folders if not inner.endswith("-offers")]
         for file in files:
             module = STORED.match(file)
             if module and module[1] == name:
@@ -65,14 +81,25 @@ def parts(name, began, ended):
     return seconds
 
 
-def check(name):
-    """How long the check took, from nothing."""
-    shutil.rmtree(os.path.join(ROOT, "target", "inc", name), ignore_errors=True)
+def checked(name):
+    """Has the crate checked, and says when that began and ended."""
     began = time.time()
-    done = subprocess.run(["rt", "dev", name], cwd=ROOT, capture_output=True, text=True)
+    done = subprocess.run(["rt", "check"], cwd=folder_of(name), capture_output=True, text=True)
     ended = time.time()
+    said = done.stdout + done.stderr
     if done.returncode:
-        sys.exit(f"{name} is not proved:\n{done.stdout[-2000:]}{done.stderr[-2000:]}")
+        sys.exit(f"{name} is not proved:\n{said[-4000:]}")
+    return began, ended, said
+
+
+def check(name):
+    """When the check began and ended, from nothing, over libraries that are made already."""
+    checked(name)
+    shutil.rmtree(kept(name), ignore_errors=True)
+    began, ended, said = checked(name)
+    begun = [folder for crate, folder in BEGUN.findall(said) if crate == name]
+    if begun:
+        sys.exit(f"{name} was not checked from nothing, but from what a check kept in {begun[0]}")
     return began, ended
 
 

@@ -1,23 +1,26 @@
-"""Says how long each crate took in the gate, and where its check's time went.
+"""Says how long the gate took, and where each crate's check's time went.
 
-usage: .ci/run | tee LOG; python3 tests/gate_times.py LOG WALL [CHECKS]
+usage: rt ci --anew | tee LOG; python3 tests/gate_times.py LOG WALL CHECKS
        WALL: how long the gate took, as in "16 min 40 s"; CHECKS: what tests/check_times.py --all wrote of every crate
 
-Writes docs/GATE.md from what the gate wrote: for each crate, in the order of crates.txt, its functions, the modules of
-proved libraries that its check read, the seconds that its proof took, and the seconds of the edits that must fail. Several
-run at a time, so the seconds of all add up to more than the gate took. A gate that is not green has no times.
+Writes docs/GATE.md from what the gate and the checks wrote: for each crate, in the order of crates.txt, its functions,
+the modules of proved libraries that its check read, how many edits must fail, and the seconds of its check by itself.
+The gate runs several at a time and says of none how long it took. Of a crate that it keeps from an earlier run it says
+nothing, so it is run with --anew. A gate that is not green has no times.
 """
 import os
 import re
+import subprocess
 import sys
 import textwrap
 from collections import namedtuple
 
 ROOT = os.path.join(os.path.dirname(os.path.abspath(__file__)), "..")
-PROVED = re.compile(r"^rt: (\w+) proved \((\d+) s\)$")
-EDIT = re.compile(r"^rt: must-fail (\w+)/\w+: refused, as it must be \(first at .*; (\d+) s\)$")
+HEAD = re.compile(r"^== \w+$")
+PROVED = re.compile(r"^rt: (\w+) proved$")
+EDIT = re.compile(r"^rt: must-fail (\w+)/[\w.-]+\.edit: refused, as it must be\b")
 FUNCTIONS = re.compile(r"^logic=proved functions=(\d+) ")
-MODULES = re.compile(r"^library \w+: modules loaded=(\d+) ")
+MODULES = re.compile(r"^(?:library|statements) \w+: modules loaded=(\d+) ")
 END = re.compile(r"^(\d+) passed, 0 failed$")
 # what tests/check_times.py writes: a line for a crate, and one for each of its functions
 CHECKED = re.compile(r"^(\w+): ([\d.]+) s: (.*)$")
@@ -25,7 +28,7 @@ FUNCTION = re.compile(r"^  (\S+) +([\d.]+) +([\d.]+)$")
 # so many of the slowest are named
 SLOWEST = 8
 
-Proof = namedtuple("Proof", "seconds functions modules")
+Proof = namedtuple("Proof", "functions modules")
 Function = namedtuple("Function", "name walk proof")
 
 # how wide a line of the page's text is
@@ -34,7 +37,7 @@ WIDE = 120
 
 def crates():
     with open(os.path.join(ROOT, "crates.txt"), encoding="utf-8") as listed:
-        return re.findall(r"^(\w+):", listed.read(), re.M)
+        return re.findall(r"^(\w+)(?: [^:#\n]*)?:", listed.read(), re.M)
 
 
 def number(pattern, line):
@@ -44,17 +47,18 @@ def number(pattern, line):
 
 
 def read(log):
-    """Each crate's proof, the seconds of each crate's edits, and how many passed; none where the gate is not green."""
+    """Each crate's proof, how many edits of each were refused, and how many passed; none where the gate is not green."""
     proofs, edits, passed = {}, {}, None
     functions = modules = 0
     for line in log:
+        if HEAD.match(line):
+            functions = modules = 0
         functions, modules = functions + number(FUNCTIONS, line), modules + number(MODULES, line)
         proof, edit = PROVED.match(line), EDIT.match(line)
         if proof:
-            proofs[proof[1]] = Proof(int(proof[2]), functions, modules)
-            functions = modules = 0
+            proofs[proof[1]] = Proof(functions, modules)
         if edit:
-            edits.setdefault(edit[1], []).append(int(edit[2]))
+            edits[edit[1]] = edits.get(edit[1], 0) + 1
         passed = number(END, line) or passed
     return proofs, edits, passed
 
@@ -74,12 +78,10 @@ def read_checks(lines):
 
 
 def row(name, proofs, edits, checks):
-    proof, tried = proofs[name], edits.get(name, [])
-    cells = [f"`{name}`", str(proof.functions), f"{proof.modules:,}", str(proof.seconds), str(len(tried)), str(sum(tried))]
-    if checks:
-        parts = checks[name]
-        cells += [f"{seconds:.1f}" for seconds in (sum(parts.values()), parts["walk"], parts["proof"],
-                                                   parts["specs"] + parts["shared"], parts["reading"])]
+    proof, parts = proofs[name], checks[name]
+    cells = [f"`{name}`", str(proof.functions), f"{proof.modules:,}", str(edits.get(name, 0))]
+    cells += [f"{seconds:.1f}" for seconds in (sum(parts.values()), parts["walk"], parts["proof"],
+                                               parts["specs"] + parts["shared"], parts["reading"])]
     return f"| {' | '.join(cells)} |"
 
 
@@ -95,7 +97,7 @@ def why(proofs, checks, functions):
         "## Where a check's time goes",
         "",
         paragraph(
-            f"By `tests/check_times.py`, each crate checked by itself, two at a time: {sum(total.values()):.0f} s.",
+            f"By `tests/check_times.py`, each crate checked by itself: {sum(total.values()):.0f} s.",
             f"Of these {total['walk']:.0f} s are the kit's walk of the functions' code, {total['walk'] / count:.2f} s for each of",
             f"{count} functions; {total['reading']:.0f} s starting and reading the libraries below; {total['proof']:.0f} s the",
             f"proofs of the functions; {total['specs'] + total['shared']:.0f} s definitions, laws and what several proofs share.",
@@ -106,30 +108,31 @@ def why(proofs, checks, functions):
 
 
 def page(proofs, edits, passed, wall, checks, functions):
-    all_edits = [seconds for tried in edits.values() for seconds in tried]
-    slowest = sorted(proofs, key=lambda name: -proofs[name].seconds)[:SLOWEST]
-    heads = ["Crate", "Functions", "Modules", "Proof, s", "Edits", "Edits, s"]
-    heads += ["By itself, s", "walk", "proofs", "specs", "reading"] if checks else []
+    slowest = sorted(checks, key=lambda name: -sum(checks[name].values()))[:SLOWEST]
+    heads = ["Crate", "Functions", "Modules", "Edits", "By itself, s", "walk", "proofs", "specs", "reading"]
     lines = [
         "# The gate, crate by crate",
         "",
-        "Made by `tests/gate_times.py` from what `.ci/run` wrote on a clean checkout, on two cores.",
+        f"Made by `tests/gate_times.py` from what `rt ci --anew` wrote, with the kit {kit()}.",
         "",
-        paragraph(
-            f"{passed} passed, 0 failed, in {wall}. {len(proofs)} crates were proved in",
-            f"{sum(proof.seconds for proof in proofs.values())} s and {len(all_edits)} edits refused in {sum(all_edits)} s,",
-            "several at a time."),
-        paragraph("The slowest:", ", ".join(f"`{name}` {proofs[name].seconds} s" for name in slowest) + "."),
-        *(why(proofs, checks, functions) if checks else []),
+        paragraph(f"{passed} passed, 0 failed, in {wall}. {len(proofs)} crates were proved and {sum(edits.values())} edits",
+                  "refused, several at a time."),
+        paragraph("The slowest by themselves:",
+                  ", ".join(f"`{name}` {sum(checks[name].values()):.0f} s" for name in slowest) + "."),
+        *why(proofs, checks, functions),
         "## Each crate",
         "",
         paragraph("Modules are those of the proved libraries below a crate that its check read.",
-                  "The last five columns are of its check by itself." if checks else ""),
+                  "The last five columns are of its check by itself."),
         f"| {' | '.join(heads)} |",
         "|---" * len(heads) + "|",
         *[row(name, proofs, edits, checks) for name in crates()],
     ]
     return "\n".join(lines) + "\n"
+
+
+def kit():
+    return subprocess.run(["rt", "version"], capture_output=True, text=True, check=True).stdout.strip()
 
 
 def lines_of(path):
@@ -138,11 +141,11 @@ def lines_of(path):
 
 
 def main():
-    if len(sys.argv) not in (3, 4):
+    if len(sys.argv) != 4:
         sys.exit(__doc__)
     proofs, edits, passed = read(lines_of(sys.argv[1]))
-    checks, functions = read_checks(lines_of(sys.argv[3])) if len(sys.argv) == 4 else ({}, [])
-    missing = [name for name in crates() if name not in proofs or (checks and name not in checks)]
+    checks, functions = read_checks(lines_of(sys.argv[3]))
+    missing = [name for name in crates() if name not in proofs or name not in checks]
     if passed is None or missing:
         sys.exit(f"no green gate, or not all of it: {', '.join(missing) or 'its last line is not there'}")
     with open(os.path.join(ROOT, "docs", "GATE.md"), "w", encoding="utf-8") as out:

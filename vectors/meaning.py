@@ -510,49 +510,50 @@ def line(case):
     given = " ".join(literal(each) if isinstance(each, (list, tuple)) else str(each) for each in case.given)
     left = "untouched" if case.answer[0] in (1, 2, 10) and case.work else "zeros"
     outputs = "(" + "".join(literal(output) + " ∷ " for output in case.outputs) + "[])"
-    return f"({case.call}Raw {given} leaves outcome {literal(case.answer)} {left} {outputs})"
+    return f"({case.call}_raw {given} leaves outcome {literal(case.answer)} {left} {outputs})"
 
 
 RAW = """
-unfoldable pub verifyRaw : List ℕ → List ℕ → List ℕ → Outcome
-verifyRaw = verifyAll
+unfoldable pub verify_raw : List ℕ → List ℕ → List ℕ → Outcome
+verify_raw = verify_all
 
-unfoldable pub evaluateRaw : List ℕ → List ℕ → List ℕ → List ℕ → List ℕ → Outcome
-evaluateRaw = evaluateAll
+unfoldable pub evaluate_raw : List ℕ → List ℕ → List ℕ → List ℕ → List ℕ → Outcome
+evaluate_raw = evaluate_all
 
-unfoldable pub compareRaw : List ℕ → List ℕ → List ℕ → List ℕ → List ℕ → Outcome
-compareRaw ns ps ms qs work =
+unfoldable pub compare_raw : List ℕ → List ℕ → List ℕ → List ℕ → List ℕ → Outcome
+compare_raw ns ps ms qs work =
     let o = compare ns ps ms qs work in
-    let a = o .answer in
+    let a = o.answer in
     outcome
-    (a .refusal .number ∷ a .refusal .node ∷ checkNumber (a .verdict) ∷ a .index ∷ (told (a .first) ++ told (a .second)))
-    (left work (o .work)) []
+    (a.refusal.number ∷ a.refusal.node ∷ check_number a.verdict ∷ a.index ∷ (told a.first ++ told a.second))
+    (left work o.work) []
 
-unfoldable pub separateRaw : List ℕ → List ℕ → ℕ → ℕ → List ℕ → Outcome
-separateRaw ns ps n run work =
+unfoldable pub separate_raw : List ℕ → List ℕ → ℕ → ℕ → List ℕ → Outcome
+separate_raw ns ps n run work =
     let o = separate ns ps n run work in
-    let a = o .answer in
+    let a = o.answer in
     outcome
-    (a .refusal .number ∷ a .refusal .node ∷ judgementNumber (a .judgement) ∷ a .index ∷ (told (a .run) ++ told (a .cleared)))
-    (left work (o .work)) []
+    (a.refusal.number ∷ a.refusal.node ∷ judgement_number a.judgement ∷ a.index ∷ (told a.run ++ told a.cleared))
+    (left work o.work) []
 
-unfoldable pub canonicaliseRaw : List ℕ → List ℕ → List ℕ → List ℕ → List ℕ → Outcome
-canonicaliseRaw ns ps work outNodes outPool =
-    let o = canonicalise ns ps work outNodes outPool in
-    let a = o .answer in
-    outcome (a .refusal .number ∷ a .refusal .node ∷ a .nodes ∷ a .pool ∷ []) (left work (o .work)) (o .outNodes ∷ o .outPool ∷ [])
+unfoldable pub canonicalise_raw : List ℕ → List ℕ → List ℕ → List ℕ → List ℕ → Outcome
+canonicalise_raw ns ps work out_nodes out_pool =
+    let o = canonicalise ns ps work out_nodes out_pool in
+    let a = o.answer in
+    outcome (a.refusal.number ∷ a.refusal.node ∷ a.nodes ∷ a.pool ∷ []) (left work o.work) (o.out_nodes ∷ o.out_pool ∷ [])
 """
-OWN = "use Rattle·meaning·specs.specs.Claims.Cases.Outcomes.{Left, zeros, untouched, neither, left, Outcome, outcome, " \
-      "told, verifyAll, evaluateAll, compareAll, separateAll, canonicaliseAll, Whole, _leaves_}\n"
+CASES = os.path.join("proofs", "Claims", "Cases")
+OWN = "use Rattle.meaning.proofs.Claims.Cases.Outcomes.{Left, zeros, untouched, neither, left, Outcome, outcome, " \
+      "told, verify_all, evaluate_all, compare_all, separate_all, canonicalise_all, Whole, ◌leaves◌}\n"
 
 
 def head():
     """The `use` lines of Outcomes.antt and the names that its claim unfolds."""
-    with open(os.path.join(CRATE, "specs", "Claims", "Cases", "Outcomes.antt"), encoding="utf-8") as file:
+    with open(os.path.join(CRATE, CASES, "Outcomes.antt"), encoding="utf-8") as file:
         text = file.read()
     uses = "".join(use + "\n" for use in re.findall(r"^use .*$", text, re.M))
     unfolded = re.search(r"^unfolding outcomes (.*)$", text, re.M).group(1)
-    return uses + OWN + RAW, "verifyRaw evaluateRaw compareRaw separateRaw canonicaliseRaw " + unfolded
+    return uses + OWN + RAW, "verify_raw evaluate_raw compare_raw separate_raw canonicalise_raw " + unfolded
 
 
 def table_text(number, cases, unfolded):
@@ -563,9 +564,9 @@ table{number} =
     {body}
     ∷ []
 
-pub table{number}-claim : map (λ (w : Whole). w .computed) table{number} ≡ map (λ (w : Whole). w .document) table{number}
+pub table{number}_claim : map (λ (w : Whole). w.computed) table{number} ≡ map (λ (w : Whole). w.document) table{number}
 unfolding table{number} {unfolded}
-table{number}-claim = refl
+table{number}_claim = refl
 """
 
 
@@ -573,11 +574,10 @@ class Copy:
     """A copy of the crate in a folder of its own, with room for the generated file."""
 
     def __init__(self, folder):
-        self.folder = folder
-        crate = os.path.join(folder, "crates", "meaning")
-        shutil.copytree(CRATE, crate)
-        self.file = os.path.join(crate, "specs", "Claims", "Cases", "Random.antt")
-        with open(os.path.join(crate, "specs", "Claims", "Cases.antt"), "a", encoding="utf-8") as file:
+        self.crate = os.path.join(folder, "crates", "meaning")
+        shutil.copytree(CRATE, self.crate, ignore=shutil.ignore_patterns("out"))
+        self.file = os.path.join(self.crate, CASES, "Random.antt")
+        with open(os.path.join(self.crate, CASES + ".antt"), "a", encoding="utf-8") as file:
             file.write("pub mod Random\n")
         with open(os.path.join(folder, "crates.txt"), "w", encoding="utf-8") as file:
             file.write("meaning:\n")
@@ -587,13 +587,13 @@ class Copy:
         """What is printed of each refused table, by its number; None where something else is refused."""
         with open(self.file, "w", encoding="utf-8") as file:
             file.write(self.head + "".join(table_text(i, cases, self.unfolded) for i, cases in enumerate(tables)))
-        done = subprocess.run(["rt", "check"], cwd=self.folder, capture_output=True, text=True, check=False)
+        done = subprocess.run(["rt", "check"], cwd=self.crate, capture_output=True, text=True, check=False)
         if done.returncode == 0:
             return {}
         printed = done.stdout + done.stderr
         found = {}
         for error in re.findall(r"^\S+: error: .*$", printed, re.M):
-            claim = re.search(r"Random\.antt:.*`table(\d+)-claim`", error)
+            claim = re.search(r"Random\.antt:.*`table(\d+)_claim`", error)
             if claim is None or "not in scope" in error:
                 found = {}
                 break

@@ -17,7 +17,7 @@ fn main() {
     println!("cargo:rerun-if-env-changed=PANEL_LIB");
     println!("cargo:rerun-if-changed={}", library.display());
     if !library.is_file() {
-        eprintln!("{} is not there: `rt staticlib panel_c` makes it, or PANEL_LIB names its folder", library.display());
+        eprintln!("{} is not there: `tools/library` makes it, or PANEL_LIB names its folder", library.display());
         exit(1);
     }
     println!("cargo:rustc-link-search=native={}", folder.display());

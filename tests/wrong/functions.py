@@ -5,6 +5,7 @@ from collections import namedtuple
 from edits import CRATES
 
 HEAD = re.compile(r'^(?P<indent> *)(?P<public>pub )?(pub\([a-z]+\) )?(extern "C" )?fn (?P<name>\w+)')
+CLAUSE = re.compile(r"^ *(requires|ensures|ghost)\b")
 
 # path: as the check names it, without the crate. first, body, last: its first line, that of its body, and its last
 Function = namedtuple("Function", "crate file path public promises first body last")
@@ -24,7 +25,7 @@ def functions_in(crate, file, text):
         head = HEAD.match(line)
         if head:
             last = next(n for n in range(first, len(lines)) if lines[n] == head["indent"] + "}")
-            body = next(n for n in range(first, len(lines)) if lines[n].endswith("{") and "⌜" not in lines[n])
+            body = next(n for n in range(first, len(lines)) if lines[n].endswith("{") and not CLAUSE.match(lines[n]))
             promises = any(part.lstrip().startswith("ensures") for part in lines[first:body + 1])
             path = module_of(file) + head["name"]
             found.append(Function(crate, file, path, bool(head["public"]), promises, first, body, last))

@@ -1,6 +1,7 @@
 """What came of each wrong answer, kept in target/wrong/results.json with what it was tried on."""
 import hashlib
 import json
+import subprocess
 import threading
 
 from edits import CRATES, PARTS, ROOT
@@ -14,18 +15,27 @@ def deps_of(crate):
     """The crates of the repository that it uses."""
     for line in (ROOT / "crates.txt").read_text().splitlines():
         name, colon, deps = line.partition("#")[0].partition(":")
-        if colon and name.strip() == crate:
+        # (the kind of a crate may stand behind its name)
+        if colon and name.split()[:1] == [crate]:
             return [dep for dep in deps.split() if (CRATES / dep).is_dir()]
     return []
 
 
+def below(crate):
+    """The crates of the repository that it rests on, however far down."""
+    found = set()
+    for dep in deps_of(crate):
+        found |= {dep} | below(dep)
+    return found
+
+
 def state_of(crate):
-    """A digest of the crate's files and of what it uses, as it was proved."""
-    digest = hashlib.sha256()
-    files = [path for part in PARTS for path in sorted((CRATES / crate / part).rglob("*")) if path.is_file()]
-    files += [ROOT / "target" / "stamp" / dep for dep in deps_of(crate)]
-    for path in files:
-        digest.update(str(path.relative_to(ROOT)).encode() + b"\0" + (path.read_bytes() if path.is_file() else b""))
+    """A digest of the crate's files, of those that it rests on and of the kit."""
+    digest = hashlib.sha256(subprocess.run(["rt", "version"], stdout=subprocess.PIPE, check=False).stdout)
+    for each in (crate, *sorted(below(crate))):
+        files = [path for part in PARTS for path in sorted((CRATES / each / part).rglob("*")) if path.is_file()]
+        for path in files:
+            digest.update(str(path.relative_to(ROOT)).encode() + b"\0" + path.read_bytes())
     return digest.hexdigest()
 
 

@@ -1,7 +1,7 @@
 """A scratch copy of the repository, in which a wrong answer is tried; the tree itself is never touched.
 
-Each worker has a copy under target/wrong. What is proved already it reads from the tree's own target/, so only the
-edited crate is proved there, and of that only what the edit changes.
+Each worker has a copy of its own, outside the repository, since the gate takes no code but that of crates. Its check
+begins with what `rt check` proved of the tree, so only what an edit changes is proved there.
 """
 import contextlib
 import fcntl
@@ -14,8 +14,8 @@ from pathlib import Path
 from edits import CRATES, PARTS, ROOT
 
 WRONG = ROOT / "target" / "wrong"
-# target/ of a copy: these two are the tree's own, all else is the copy's
-SHARED = ("rlib", "stamp")
+# what the check needs of the folder above the crates
+ABOVE = ("crates.txt", "HANDLES")
 
 
 @contextlib.contextmanager
@@ -40,14 +40,11 @@ class Scratch:
     """One worker's copy of the repository."""
 
     def __init__(self):
-        WRONG.mkdir(parents=True, exist_ok=True)
-        self.root = Path(tempfile.mkdtemp(prefix="copy", dir=WRONG))
-        (self.root / "target").mkdir()
-        shutil.copy(ROOT / "crates.txt", self.root)
-        shutil.copytree(CRATES, self.root / "crates", ignore=shutil.ignore_patterns("must-fail"))
-        for part in SHARED:
-            os.symlink(ROOT / "target" / part, self.root / "target" / part)
-        self.ready = set()
+        self.root = Path(tempfile.mkdtemp(prefix="wrong-"))
+        for name in ABOVE:
+            if (ROOT / name).is_file():
+                shutil.copy(ROOT / name, self.root)
+        shutil.copytree(CRATES, self.root / "crates", ignore=shutil.ignore_patterns("must-fail", "out"))
 
     def remove(self):
         shutil.rmtree(self.root, ignore_errors=True)
@@ -66,7 +63,7 @@ class Scratch:
     def check(self, crate):
         """What the check says of the crate as it stands in this copy: its status, its text, the processor's seconds."""
         with open(self.root / "said", "w+b") as said:
-            child = subprocess.Popen(["rt", "dev", crate], cwd=self.root, stdout=said, stderr=subprocess.STDOUT)
+            child = subprocess.Popen(["rt", "check"], cwd=self.folder(crate), stdout=said, stderr=subprocess.STDOUT)
             status, used = os.wait4(child.pid, 0)[1:]
             child.returncode = os.waitstatus_to_exitcode(status)
             said.seek(0)
@@ -78,12 +75,3 @@ class Scratch:
         for wrong in group:
             log_of(wrong).parent.mkdir(parents=True, exist_ok=True)
             log_of(wrong).write_text(said)
-
-    def prepare(self, crate):
-        """Sees that a program is proved as it stands. A library's stamp in the tree's target/ says so already."""
-        if crate in self.ready or (CRATES / crate / "src" / "lib.rt").is_file():
-            return
-        status, text, _ = self.check(crate)
-        if status != 0:
-            raise Unproved(f"{crate} is not proved as it stands:\n{text[-2000:]}")
-        self.ready.add(crate)

@@ -13,8 +13,9 @@ NAME = re.compile(r"\b[a-z0-9]+(?:_[a-z0-9]+)+\b")
 HEAD = """## What refused each wrong answer
 
 Every wrong answer, what its line becomes, and what refused it: a fact of a function's proof (`FACT` of `FUNCTION`), or
-a law or worked examples of a file of definitions. "gate" stands where the gate tries it, in `crates/NAME/must-fail`;
-the others stand in `tests/wrong/NAME`. `tests/wrong/run` tries them all, and writes this section.
+a law or worked examples of a file of definitions or of lemmas. "gate" stands where the gate tries it, in
+`crates/NAME/must-fail`; the others stand in `tests/wrong/NAME`. `tests/wrong/run` tries them all, and writes this
+section.
 """
 TABLE = "| Wrong answer | Its line becomes | Refused at | Tried by |\n|---|---|---|---|"
 
@@ -43,7 +44,7 @@ def refused_at(result):
         return "not tried as it stands"
     if result.outcome != REFUSED:
         return f"{result.outcome}"
-    if result.place.startswith("specs/"):
+    if result.place.startswith(("specs/", "proofs/")):
         return f"`{result.fact}` in {result.place}"
     return f"`{result.fact}` of `{result.place}`"
 

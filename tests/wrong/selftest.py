@@ -11,7 +11,7 @@ CASES = (
     ("a_text_that_is_not_there", "old: return third;\nnew: return first;\n", BAD),
     ("a_text_that_is_there_twice", "old: Refusal {\nnew: Refusal  {\n", BAD),
     ("no_rattle", "old:         return second;\nnew:         return nothing_known;\n", BAD),
-    ("one_test_more", "old:         return second;\nnew: if second.node == 0 { return second; } return second;\n", UNFIT),
+    ("one_test_more", "old: first.number == DONE {\nnew: first.number == DONE && first.number == DONE {\n", UNFIT),
     ("a_wrong_answer", "old:         return second;\nnew:         return first;\n", REFUSED),
 )
 

@@ -9,9 +9,11 @@ from collections import namedtuple
 
 from edits import BadEdit, apply, changes_of
 from functions import body_changed
-from refused import is_of, refusals
+from refused import is_of, refusals, unread
 
 REFUSED, PROVED, BAD, UNFIT = "refused", "proved", "bad edit", "refused by no fact"
+# the status of a check that gives no verdict
+AT_LIMIT = 3
 
 # outcome: one of the four. place, fact: of the refusal, or why it is no refusal. seconds, cpu: of the check that it was
 # tried in. beside: how many were tried in that check
@@ -65,8 +67,13 @@ def tried_alone(scratch, wrong):
         return Result(BAD, "", str(bad), 0, 0, 1)
     if status == 0:
         return Result(PROVED, "", "the crate is still proved with it", seconds, cpu, 1)
+    if status == AT_LIMIT:
+        return Result(UNFIT, "", "the prover met a limit of its own", seconds, cpu, 1)
     if "logic=not-proved" not in said:
         return Result(BAD, "", "it does not reach the prover", seconds, cpu, 1)
+    line = unread(said, {change.file for change in changes_of(wrong.path.read_text())})
+    if line:
+        return Result(BAD, "", f"it cannot be read: {line[:200]}", seconds, cpu, 1)
     found = refusals(said)
     if not found:
         return Result(UNFIT, "", first_error(said), seconds, cpu, 1)

@@ -3,26 +3,20 @@ import queue
 import subprocess
 import threading
 
-from edits import CRATES, ROOT
-from results import deps_of
+from edits import CRATES
 from scratch import Scratch, Unproved, held
 from trial import REFUSED, groups, tried
 
 
 def prove(crates):
-    """Has the tree's libraries proved that the wrong answers need; what is unchanged since is not proved again."""
-    needed = set()
-    for crate in crates:
-        is_library = (CRATES / crate / "src" / "lib.rt").is_file()
-        needed.update([crate] if is_library else deps_of(crate))
-    if not needed:
-        return
-    print(f"seeing that {len(needed)} libraries are proved as they stand", flush=True)
-    with held("prove"):
-        done = subprocess.run(["rt", "check", *sorted(needed)], cwd=ROOT,
-                              stdout=subprocess.PIPE, stderr=subprocess.STDOUT)
-    if done.returncode != 0:
-        raise Unproved(done.stdout.decode("utf-8", errors="replace")[-3000:])
+    """Has the crates proved that the wrong answers are of, and those below; what is unchanged is not proved again."""
+    print(f"seeing that {len(crates)} crates are proved as they stand", flush=True)
+    for crate in sorted(crates):
+        with held("prove"):
+            done = subprocess.run(["rt", "check"], cwd=CRATES / crate, stdout=subprocess.PIPE, stderr=subprocess.STDOUT)
+        if done.returncode != 0:
+            said = done.stdout.decode("utf-8", errors="replace")
+            raise Unproved(f"{crate} is not proved as it stands:\n{said[-3000:]}")
 
 
 class Run:
@@ -51,7 +45,6 @@ class Run:
             scratch.remove()
 
     def try_crate(self, scratch, crate):
-        scratch.prepare(crate)
         for group in groups(self.by_crate[crate], self.together):
             for wrong, result in tried(scratch, group).items():
                 self.results.put(wrong, result)
