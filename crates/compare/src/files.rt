@@ -3,7 +3,7 @@
 ghost use Rattle.list_room.specs.Written.{Taken};
 ghost use Rattle.list_parts.specs.Parts.{Held};
 
-use super::lists;
+use super::two_lists;
 use list_files::list_of_argument;
 use list_parts::Found;
 use list_room::written::{node_room, pool_room};
@@ -70,7 +70,7 @@ pub(crate) fn compare_found(
     else {
         return Ok(());
     };
-    lists::compare(
+    two_lists::compare(
         rt,
         &nodes[..words],
         &pool[..entries],

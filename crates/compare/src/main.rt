@@ -5,8 +5,8 @@
 mod examples;
 mod files;
 mod input;
-mod lists;
 mod refused;
+mod two_lists;
 
 use list_files::arguments::argument_count;
 use list_files::names_input;

@@ -4,7 +4,7 @@
 #![tactic(auto)]
 
 mod cases;
-mod lists;
+mod two_lists;
 
 ghost use Rattle.std.specs.Prelude.{◌+◌, ◌≤◌, length, IfOk};
 ghost use Rattle.replay_compare.specs.Cases.{Fits};
@@ -18,10 +18,10 @@ use decimals::Row;
 use lent_words::{fill, is_left};
 use list_room::{TEXT_ROOM, node_room, pair_work_room, pool_room, text_room};
 use list_words::Entries;
-use lists::next_lists;
 use replay_report::{Tally, Turn, counted, goes_on, read_full, report, started, too_long};
 use replay_results::{Expected, ROW_WORDS, expected_of, judged};
 use std::io;
+use two_lists::next_lists;
 
 // ---- one case
 
