@@ -2,8 +2,7 @@
 ghost use Rattle.list_room.specs.Written.{Taken};
 
 use super::files::compare_found;
-use list_files::buffers::large_buffer;
-use list_files::{Text, read_text};
+use list_files::{Text, large_buffer, read_text};
 use list_parts::{Found, ends, find_list};
 use list_room::written::{node_room, pool_room};
 use std::io;

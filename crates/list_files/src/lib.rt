@@ -5,14 +5,14 @@
 #![tactic(auto)]
 
 pub mod arguments;
-pub mod buffers;
 mod messages;
 
 ghost use Rattle.std.specs.Prelude.{◌≡◌};
 ghost use Rattle.list_parts.specs.Parts as parts;
+ghost use Rattle.io.specs.Counts.{IsPrefixLen};
 ghost use Rattle.list_files.specs.Texts as texts;
 
-use buffers::{buffer, large_buffer};
+pub use io::{buffer, large_buffer};
 use list_parts::{Found, ends, find_list};
 use messages::{write_failure, write_no_argument, write_no_name, write_too_long};
 use std::env::Env;
@@ -157,7 +157,7 @@ pub fn read_text<R: Read, W: Write>(
 
 // Reads until the places are full, the source ends or a read fails, and answers how many bytes it put at their start.
 fn read_full<R: Read>(source: &mut R, text: &mut [u8]) -> usize
-    ensures { texts.IsPrefixLen result text.new }
+    ensures { IsPrefixLen result text.new }
 {
     let mut done = 0;
     while done < text.len() {

@@ -3,7 +3,7 @@
 ghost use Rattle.std.specs.Prelude.{◌≡◌};
 ghost use Rattle.separate.specs.Numbers as numbers;
 
-use list_files::buffers::buffer;
+use list_files::buffer;
 use list_texts::{Rest, rest_from};
 use list_words::{Entry, next_entry};
 use std::env::Env;
