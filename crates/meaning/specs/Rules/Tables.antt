@@ -89,7 +89,7 @@ abbrev pub row_from : ℕ → List ℕ → ℕ
 row_from r [] = r
 row_from r (b ∷ bs) = row_from (r * 2 + b) bs
 
--- the bits but that at place j, for the row that they are
+-- the bits without the one at place j
 abbrev pub but_one : ℕ → List ℕ → List ℕ
 but_one j bs = take j bs ++ drop (suc j) bs
 
