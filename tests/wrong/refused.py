@@ -2,7 +2,7 @@
 
 A fact is refused by a line such as
 
-    ./proofs/first_refusal/Answers.antt:10:5: error: `returns`: ..
+    ./proofs/bus_step/Answers.antt:10:5: error: `returns`: ..
 
 The function is in the path, the fact between the first ticks. A function that is proved with no proof file is told by
 

@@ -5,7 +5,9 @@ use Rattle.std.proofs.Math.Path.{sym}
 use Rattle.std.proofs.Common.{arith, ltb-true, lt-ltb}
 use Rattle.std.proofs.Math.ListN.{get_or}
 use Rattle.meaning.specs.Rules.Limits.{widest_bus}
-use Rattle.meaning.specs.Rules.Kinds.{Kind, Const, Program, DC, Var, Nor, Mux, And, Xor, Not, Lut, Bus, Reg, Arg, Cycle, Unknown, kind_of, lut_word}
+use Rattle.meaning.specs.declared.kinds.Kind.{Kind}
+use Rattle.meaning.specs.declared.kinds.Kind.TheVariants.{Const, Program, DC, Var, Nor, Mux, And, Xor, Not, Lut, Bus, Reg, Arg, Cycle, Unknown}
+use Rattle.meaning.specs.Rules.Kinds.{kind_of}
 use Rattle.meaning.specs.Rules.Trees.{node_count, kind_at, children_at, tree_of}
 use Rattle.meaning.specs.Rules.Evaluable.{Shape, bit, width_of, is_bit, is_logic, nth_shape, shape, fits}
 use Rattle.meaning.specs.Rules.Answers.{Assignment, nth}
@@ -35,7 +37,7 @@ operand_logic Unknown ss i t f l = absurd (true_false t refl)
 
 module _ (ns ps : List ℕ) (s : Sound ns ps) (n : ℕ) where
   -- of a Lut all children but the first
-  pub lut_takes : (i : ℕ) → kind_at ns n ≡ lut_word → 0 < i → i < length (children_at ns ps n) → Operand ns ps n i
+  pub lut_takes : (i : ℕ) → kind_of (kind_at ns n) ≡ Lut → 0 < i → i < length (children_at ns ps n) → Operand ns ps n i
   lut_takes i e h l = record { inside = l; used = rw e (lt-ltb 0 i h) }
 
   module _ (g : Logic ns ps n) where

@@ -6,7 +6,9 @@ use Rattle.std.proofs.Common.{ap, subst, ◌∙◌, add-zero, arith, eqb-true, l
 use Rattle.std.proofs.Math.ListN.{length}
 use Rattle.meaning.specs.declared.Answer.{Answer}
 use Rattle.meaning.specs.Rules.Limits.{widest_bus}
-use Rattle.meaning.specs.Rules.Kinds.{Kind, Const, Program, DC, Var, Nor, Mux, And, Xor, Not, Lut, Bus, Reg, Arg, Cycle, Unknown, kind_of, may_have}
+use Rattle.meaning.specs.declared.kinds.Kind.{Kind}
+use Rattle.meaning.specs.declared.kinds.Kind.TheVariants.{Const, Program, DC, Var, Nor, Mux, And, Xor, Not, Lut, Bus, Reg, Arg, Cycle, Unknown}
+use Rattle.meaning.specs.Rules.Kinds.{kind_of, may_have}
 use Rattle.meaning.specs.Rules.Trees.{node_count, kind_at, datum_at, children_at, tree_of}
 use Rattle.meaning.specs.Rules.Refusals.{every}
 use Rattle.meaning.specs.Rules.Reach.{mark_of}
@@ -135,7 +137,7 @@ module _ (ns ps : List ℕ) (s : Sound ns ps) (α : Assignment) where
   fine_below : (b n : ℕ) → n < b → n < node_count ns → 0 < mark_of ns ps n → Fine (shape (tree_of ns ps n)) (answer α (tree_of ns ps n))
   fine_below zero n h l m = absurd (omega arith)
   fine_below (suc b) n h l m =
-      rw (shape_is n l, answer_is ns ps s n l α (kind_at ns n) refl)
+      rw (shape_is n l, answer_is ns ps s n l α (kind_of (kind_at ns n)) refl)
       (step_fine α (datum_at ns n) (shapes_at ns ps n) (answers_at ns ps α n) (sizes n)
       (children_fine n (λ i k.
       fine_below b (get_or (children_at ns ps n) i 0) (omega (arith, child_below ns ps s n l i k)) (omega (arith, child_below ns ps s n l i k)) (child_marked ns ps s n l m i k)))

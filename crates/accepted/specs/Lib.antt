@@ -6,5 +6,3 @@ pub mod AnswerWidths
 pub mod Operands
 -- the root has an answer
 pub mod Root
--- a variable's byte
-pub mod Bytes

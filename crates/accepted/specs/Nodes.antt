@@ -1,11 +1,13 @@
 -- What a list past number 8 (Claims/Column, `Sound`) gives each of its nodes: it is the node over its children's trees, has as
 -- many of them as its kind may have, each is reachable with it, and it fits them.
-use Rattle.std.specs.Prelude.{ℕ, zero, suc, ◌-◌, ◌<◌, ◌≡◌, refl, ◌≢◌, List, [], ◌∷◌, not, ◌&&◌, ◌||◌, length, get_or, drop}
-use Rattle.std.proofs.Common.{ap, arith, ltb-true, lt-ltb, le-ltb}
+use Rattle.std.specs.Prelude.{ℕ, zero, suc, ◌-◌, ◌<◌, ◌≡◌, refl, ◌≢◌, ◌⊎◌, List, [], ◌∷◌, not, ◌&&◌, ◌||◌, length, get_or, drop}
+use Rattle.std.proofs.Common.{ap, ⊎_elim, arith, ltb-true, lt-ltb, le-ltb}
 use Rattle.std.proofs.Math.Bool.{true, false}
 use Rattle.std.proofs.Math.Decide.{dec_lt}
 use Rattle.std.proofs.Math.ListN.{length-take, length-drop}
 use Rattle.meaning.specs.declared.Answer.{Answer}
+use Rattle.meaning.specs.declared.kinds.Kind.{Kind}
+use Rattle.meaning.specs.declared.kinds.Kind.TheVariants.{Const, DC, Var}
 use Rattle.meaning.specs.Rules.Kinds.{kind_of, may_have, const_word, program_word, variable_word}
 use Rattle.meaning.specs.Rules.Trees.{Tree, Forest, node, trees, forest, node_count, kind_at, first_at, count_at, datum_at, children_at, tree_of}
 use Rattle.meaning.specs.Rules.Layout.{first_fits}
@@ -14,6 +16,7 @@ use Rattle.meaning.specs.Rules.Verification.{wrong, is_program}
 use Rattle.meaning.specs.Rules.Evaluable.{Shape, is_logic, shape, shapes, nth_shape, fits, fits_tree, is_root}
 use Rattle.meaning.specs.Rules.Answers.{Assignment, answer, answers, step, nth}
 use Rattle.meaning.specs.Claims.Column.{WellLaid, Sound}
+use Rattle.meaning.proofs.Laws.KindLaws.{word_of, kind_word}
 use Rattle.meaning.proofs.Laws.BoolLaws.{true_false, and_left, and_right, not_is_false, or_left_false}
 use Rattle.meaning.proofs.Laws.TreeLaws.{tree_at}
 use Rattle.meaning.proofs.Laws.ReachLaws.{reach_child}
@@ -25,6 +28,20 @@ pub record Logic (ns ps : List ℕ) (n : ℕ) : Type 0 where
   pub inside : n < node_count ns
   pub marked : 0 < mark_of ns ps n
   pub no_program : kind_at ns n ≢ program_word
+
+-- a kind before the registers has one word
+pub only_word : (k : ℕ) (κ : Kind) → kind_of k ≡ κ → word_of κ < 11 → k ≡ word_of κ
+only_word k κ e h = rw e at (kind_word k (rw e h))
+
+-- ---- a leaf that has an answer
+abbrev pub IsLeaf : Kind → Type 0
+IsLeaf κ = (κ ≡ Const) ⊎ (κ ≡ DC) ⊎ (κ ≡ Var)
+
+pub leaf_datum : (ns : List ℕ) (n : ℕ) → IsLeaf (kind_of (kind_at ns n)) → datum_at ns n ≡ first_at ns n
+unfolding datum_at
+leaf_datum ns n leaf =
+    ⊎_elim (λ e. rw (only_word (kind_at ns n) Const e (omega arith)))
+    (⊎_elim (λ e. rw (only_word (kind_at ns n) DC e (omega arith))) (λ e. rw (only_word (kind_at ns n) Var e (omega arith)))) leaf
 
 -- ---- the children of node n: their trees, shapes and answers
 abbrev pub child_trees : List ℕ → List ℕ → ℕ → Forest
@@ -103,10 +120,10 @@ module _ (ns ps : List ℕ) (s : Sound ns ps) (n : ℕ) (inside : n < node_count
   pub tree_is : tree_of ns ps n ≡ node (kind_at ns n) (datum_at ns n) (child_trees ns ps n)
   tree_is = tree_at ns ps n (children_below_lem ns ps n well)
 
-  pub answer_is : (α : Assignment) (k : ℕ) → kind_at ns n ≡ k
-      → answer α (tree_of ns ps n) ≡ step α (kind_of k) (datum_at ns n) (answers_at ns ps α n)
+  pub answer_is : (α : Assignment) (κ : Kind) → kind_of (kind_at ns n) ≡ κ
+      → answer α (tree_of ns ps n) ≡ step α κ (datum_at ns n) (answers_at ns ps α n)
   unfolding answers_at
-  answer_is α k e = rw (tree_is, e)
+  answer_is α κ e = rw (tree_is, e)
 
   -- a Program has the shape of one, so a node of another shape is none
   pub logic_kind : is_logic (shape (tree_of ns ps n)) ≡ true → kind_at ns n ≢ program_word

@@ -1,15 +1,17 @@
 -- What an evaluator asks at each kind of a list past number 8: which children it reads as operands, and how wide their answers
 -- are. What rests on a Lut's first child being no operand is in proofs/Operands: which operands a Lut has, and that each
 -- operand has an answer.
-use Rattle.std.specs.Prelude.{ℕ, zero, suc, ◌^◌, ◌≤◌, ◌<◌, ◌≡◌, refl, ◌≢◌, ◌⊎◌, List, [], ◌∷◌, Bool, true, false, cond, not, ◌&&◌, ◌||◌, length, drop, ltb, leb, eqb}
+use Rattle.std.specs.Prelude.{ℕ, zero, suc, ◌^◌, ◌≤◌, ◌<◌, ◌≡◌, refl, ◌⊎◌, List, [], ◌∷◌, Bool, true, false, cond, not, ◌&&◌, ◌||◌, length, drop, ltb, leb, eqb}
 use Rattle.std.proofs.Math.Path.{sym}
-use Rattle.std.proofs.Common.{subst, ◌∙◌, ⊎_elim, arith, eqb-true, ltb-false, lt-ltb, leb-true}
+use Rattle.std.proofs.Common.{subst, ap, ◌∙◌, ⊎_elim, arith, eqb-true, ltb-false, lt-ltb, leb-true}
 use Rattle.std.proofs.Math.ListN.{get_or}
 use Rattle.meaning.specs.declared.Failure.{Failure}
 use Rattle.meaning.specs.declared.Answer.{Answer}
 use Rattle.meaning.specs.declared.Answer.TheVariants.{Value, Failed}
 use Rattle.meaning.specs.Rules.Limits.{widest_bus, most_operands}
-use Rattle.meaning.specs.Rules.Kinds.{Kind, Const, Program, DC, Var, Nor, Mux, And, Xor, Not, Lut, Bus, Reg, Arg, Cycle, Unknown, kind_of, may_have, program_word, variable_word, lut_word, bus_word}
+use Rattle.meaning.specs.declared.kinds.Kind.{Kind}
+use Rattle.meaning.specs.declared.kinds.Kind.TheVariants.{Const, Program, DC, Var, Nor, Mux, And, Xor, Not, Lut, Bus, Reg, Arg, Cycle, Unknown}
+use Rattle.meaning.specs.Rules.Kinds.{kind_of, may_have, program_word, variable_word, lut_word}
 use Rattle.meaning.specs.Rules.Trees.{Tree, node, none, trees, forest, datum, node_count, kind_at, datum_at, children_at, tree_of}
 use Rattle.meaning.specs.Rules.Refusals.{every}
 use Rattle.meaning.specs.Rules.Verification.{is_program, lut_wrong}
@@ -17,10 +19,8 @@ use Rattle.meaning.specs.Rules.Evaluable.{Shape, bit, width_of, is_bit, is_logic
 use Rattle.meaning.specs.Rules.Answers.{Assignment, answer, nth, value_of, mux_of}
 use Rattle.meaning.specs.Claims.Column.{Sound}
 use Rattle.meaning.proofs.Laws.BoolLaws.{true_false, and_left, and_right, not_is_false, or_left_false, or_right_false}
-use Rattle.meaning.proofs.Laws.KindLaws.{register_kind}
 use Rattle.meaning.proofs.Laws.RootLaws.{forest_length}
 use Rattle.meaning.proofs.Laws.TestLaws.{every_nth}
-use Rattle.lists.specs.Cases.{past}
 use Rattle.operators.specs.Widths.{Held, Alike, held}
 use Rattle.accepted.specs.Nodes.{Logic, child_trees, answers_at, shapes_at, shapes_length, answers_length, nth_answer, tree_is, answer_is, arity, child_below, child_marked, not_wrong, fitting}
 use Rattle.accepted.specs.AnswerWidths.{Fine, bit_code, alike_pair, both_fine, children_fine, sizes, shapes_arity, fine_at}
@@ -44,11 +44,8 @@ takes Cycle i = ltb i 1
 takes Unknown i = false
 
 -- Nor, And and Xor: the kinds whose two operands are of one shape
-abbrev pub TwoOperands : ℕ → Type 0
-TwoOperands k = (k ≡ 4) ⊎ (k ≡ 6) ⊎ (k ≡ 7)
-
-pub left_is_xor : (k : ℕ) → TwoOperands k → k ≢ 4 → k ≢ 6 → k ≡ 7
-left_is_xor k two n4 n6 = ⊎_elim (λ e. absurd (n4 e)) (⊎_elim (λ e. absurd (n6 e)) (λ e. e)) two
+abbrev pub TwoOperands : Kind → Type 0
+TwoOperands κ = (κ ≡ Nor) ⊎ (κ ≡ And) ⊎ (κ ≡ Xor)
 
 pub record Operand (ns ps : List ℕ) (n i : ℕ) : Type 0 where
   pub inside : i < length (children_at ns ps n)
@@ -132,23 +129,23 @@ takes_parent (suc (suc (suc (suc k)))) i t = omega arith
 
 module _ (ns ps : List ℕ) (s : Sound ns ps) (n : ℕ) where
   -- ---- which operands there are: of a kind whose child count is m, those below m; of a Bus all; a Lut's are in proofs/Operands
-  pub fixed : n < node_count ns → (k m i : ℕ) → kind_at ns n ≡ k → ((c : ℕ) → may_have (kind_of k) c ≡ eqb c m) → takes (kind_of k) i ≡ true → i < m
+  pub fixed : n < node_count ns → (κ : Kind) (m i : ℕ) → kind_of (kind_at ns n) ≡ κ → ((c : ℕ) → may_have κ c ≡ eqb c m) → takes κ i ≡ true → i < m
       → Operand ns ps n i
-  fixed l k m i e count t h =
-      let a : may_have (kind_of k) (length (children_at ns ps n)) ≡ true = rw e at (arity ns ps s n l) in
+  fixed l κ m i e count t h =
+      let a : may_have κ (length (children_at ns ps n)) ≡ true = rw e at (arity ns ps s n l) in
       let b : length (children_at ns ps n) ≡ m = eqb-true (length (children_at ns ps n)) m (sym (count (length (children_at ns ps n))) ∙ a) in
       record { inside = omega arith; used = rw e t }
 
-  pub two_takes : n < node_count ns → TwoOperands (kind_at ns n) → (i : ℕ) → i < 2 → Operand ns ps n i
+  pub two_takes : n < node_count ns → TwoOperands (kind_of (kind_at ns n)) → (i : ℕ) → i < 2 → Operand ns ps n i
   two_takes l two i h =
       let below : ltb i 2 ≡ true = lt-ltb i 2 h in
-      ⊎_elim (λ e. fixed l 4 2 i e (λ c. refl) below h)
-      (⊎_elim (λ e. fixed l 6 2 i e (λ c. refl) below h) (λ e. fixed l 7 2 i e (λ c. refl) below h)) two
+      ⊎_elim (λ e. fixed l Nor 2 i e (λ c. refl) below h)
+      (⊎_elim (λ e. fixed l And 2 i e (λ c. refl) below h) (λ e. fixed l Xor 2 i e (λ c. refl) below h)) two
 
-  pub bus_takes : (i : ℕ) → kind_at ns n ≡ bus_word → i < length (children_at ns ps n) → Operand ns ps n i
+  pub bus_takes : (i : ℕ) → kind_of (kind_at ns n) ≡ Bus → i < length (children_at ns ps n) → Operand ns ps n i
   bus_takes i e l = record { inside = l; used = rw e }
 
-  pub bus_size : n < node_count ns → kind_at ns n ≡ bus_word → length (children_at ns ps n) ≤ widest_bus
+  pub bus_size : n < node_count ns → kind_of (kind_at ns n) ≡ Bus → length (children_at ns ps n) ≤ widest_bus
   bus_size l e = leb-true (length (children_at ns ps n)) widest_bus (rw e at (arity ns ps s n l))
 
   -- there is an answer for each child
@@ -175,12 +172,12 @@ module _ (ns ps : List ℕ) (s : Sound ns ps) (n : ℕ) where
           held 1 1 (nth (answers_at ns ps α n) i) (omega arith) (f refl).1
 
       -- Lut: the operands are bits
-      pub lut_operand : (i : ℕ) → kind_at ns n ≡ lut_word → 0 < i → i < length (children_at ns ps n) → Held 1 (nth (answers_at ns ps α n) i)
+      pub lut_operand : (i : ℕ) → kind_of (kind_at ns n) ≡ Lut → 0 < i → i < length (children_at ns ps n) → Held 1 (nth (answers_at ns ps α n) i)
       lut_operand i e h l =
           bit_operand i (shape_at i l) (lut_bit (shapes_at ns ps n) i h (shape_at i l) (rw e at (fitting ns ps s n g.inside g.marked)))
 
       -- Bus: the members are bits
-      pub bus_member : (i : ℕ) → kind_at ns n ≡ bus_word → i < length (children_at ns ps n) → Held 1 (nth (answers_at ns ps α n) i)
+      pub bus_member : (i : ℕ) → kind_of (kind_at ns n) ≡ Bus → i < length (children_at ns ps n) → Held 1 (nth (answers_at ns ps α n) i)
       bus_member i e l =
           bit_operand i (shape_at i l) (every_nth bit is_bit (shapes_at ns ps n) i (rw e at (fitting ns ps s n g.inside g.marked)) (shape_at i l))
 
@@ -215,7 +212,7 @@ module _ (ns ps : List ℕ) (s : Sound ns ps) (n : ℕ) where
     lut_program α e =
         let p = lut_children e in
         let c = get_or (children_at ns ps n) 0 0 in
-        rw (nth_answer (tree_of ns ps) α (children_at ns ps n) 0 p.some, answer_is ns ps s c p.inside α program_word p.first)
+        rw (nth_answer (tree_of ns ps) α (children_at ns ps n) 0 p.some, answer_is ns ps s c p.inside α Program (ap kind_of p.first))
 
 -- ---- Mux: a failing selector leaves; else one arm answers, child 2 where the selector is 0, else child 1
 pub mux_failed : (s a b : Answer) (f : Failure) → s ≡ Failed f → s ≡ mux_of s a b
@@ -234,8 +231,3 @@ arm_lt v a e = rw e (go (eqb v 0))
     go : (b : Bool) → cond b 2 1 < 3
     go true = omega arith
     go false = omega arith
-
--- ---- registers: what is left of 4 to 14 where no gate, Lut or Bus is
-pub registers : (k : ℕ) → 4 ≤ k → k < 15 → k ≢ 4 → k ≢ 5 → k ≢ 6 → k ≢ 7 → k ≢ 8 → k ≢ 9 → k ≢ 10 → kind_of k ≡ Reg
-registers k from below n4 n5 n6 n7 n8 n9 n10 =
-    register_kind k (past 10 k (past 9 k (past 8 k (past 7 k (past 6 k (past 5 k (past 4 k from n4) n5) n6) n7) n8) n9) n10) (omega arith)

@@ -5,17 +5,18 @@
 // reachable, and no Program).
 #![tactic(auto)]
 
-ghost use Rattle.std.specs.Prelude.{◌≡◌, List, ◌≢◌, ◌<◌, ◌≤◌, get_or};
+ghost use Rattle.std.specs.Prelude.{◌≡◌, List, ◌<◌, get_or};
 ghost use Rattle.meaning.specs.declared.Answer.{Answer};
-ghost use Rattle.meaning.specs.Rules.Kinds.{kind_of, program_word, variable_word, lut_word};
+ghost use Rattle.meaning.specs.Rules.Kinds.{kind_of, lut_word};
 ghost use Rattle.meaning.specs.Rules.Trees.{node_count, kind_at, datum_at, children_at};
 ghost use Rattle.meaning.specs.Rules.Answers.{step};
 ghost use Rattle.meaning.specs.Rules.Assignments.{given};
 ghost use Rattle.meaning.specs.Claims.Column.{Sound};
-ghost use Rattle.accepted.specs.Nodes.{Logic};
+ghost use Rattle.accepted.specs.Nodes.{Logic, IsLeaf};
 ghost use Rattle.accepted.specs.Operands.{Operand, Child};
 
 use lists::children::children_of;
+use meaning::kinds::Kind;
 use meaning::{Answer, Failure};
 use nodes::{datum_of, first_of, kind_of, wide};
 use operators::{UNDRIVEN_BYTE, driven_by};
@@ -45,17 +46,16 @@ pub fn program_of(nodes: &[u32], pool: &[u32], n: usize) -> u64
 // Inner: the answer of a Const, a DC or a Var. It has no operands, so xs is any list.
 pub fn leaf_of(nodes: &[u32], bytes: &[u8], n: usize) -> Answer
     requires n_bound { n < node_count nodes.now }
-    requires n_bound_2 { kind_at nodes.now n ≤ variable_word }
-    requires n_nonzero { kind_at nodes.now n ≢ program_word }
+    requires leaf { IsLeaf (kind_of (kind_at nodes.now n)) }
     ensures { (xs : List Answer) → result ≡ step (given bytes.now) (kind_of (kind_at nodes.now n)) (datum_at nodes.now n) xs }
 {
     let first = first_of(nodes, n);
     match kind_of(nodes, n) {
-        0 => Answer::Value {
+        Kind::Const => Answer::Value {
             width: 1,
             value: first as u64,
         },
-        2 => Answer::Failed(Failure::DontCare),
+        Kind::DC => Answer::Failed(Failure::DontCare),
         _ => driven_by(byte_of(bytes, first)),
     }
 }
@@ -64,8 +64,5 @@ pub fn leaf_of(nodes: &[u32], bytes: &[u8], n: usize) -> Answer
 fn byte_of(bytes: &[u8], variable: usize) -> u8
     ensures { result ≡ given bytes.now variable }
 {
-    if variable < bytes.len() {
-        return bytes[variable];
-    }
-    UNDRIVEN_BYTE
+    bytes.get(variable).copied().unwrap_or(UNDRIVEN_BYTE)
 }

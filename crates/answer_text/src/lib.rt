@@ -14,23 +14,20 @@ pub fn write_variable<W: Write>(out: &mut W, variable: u64, bit: u64) -> io::Res
 // "An answer is a width with a value, or a failure", to the line's end
 pub fn write_answer<W: Write>(out: &mut W, answer: Answer) -> io::Result<()> {
     match answer {
-        Answer::Value { width, value } => {
-            write!(out, "value {value}, width in bits {width}")?;
-        }
+        Answer::Value { width, value } => { writeln!(out, "value {value}, width in bits {width}") }
         Answer::Failed(failure) => {
-            out.write_all(b"failure: ")?;
-            write_failure(out, failure)?;
+            let name = failure_name(failure);
+            writeln!(out, "failure: {name}")
         }
     }
-    out.write_all(b"\n")
 }
 
 // "1 undriven, 2 DC, 3 register, 4 ARG"
-fn write_failure<W: Write>(out: &mut W, failure: Failure) -> io::Result<()> {
+fn failure_name(failure: Failure) -> &'static str {
     match failure {
-        Failure::Undriven => out.write_all(b"undriven"),
-        Failure::DontCare => out.write_all(b"don't-care"),
-        Failure::Register => out.write_all(b"register"),
-        Failure::Argument => out.write_all(b"ARG"),
+        Failure::Undriven => "undriven",
+        Failure::DontCare => "don't-care",
+        Failure::Register => "register",
+        Failure::Argument => "ARG",
     }
 }

@@ -9,7 +9,7 @@ ghost use Rattle.answer_words.specs.Said.{said};
 use meaning::{Answer, Failure};
 
 // State 0 with the width and the value, or the failure's number with zeros
-#[derive(Clone, Copy)]
+#[derive(Clone, Copy, PartialEq, Eq)]
 pub struct Words {
     pub state: u64,
     pub width: u64,
@@ -23,7 +23,7 @@ pub fn words_of(answer: Answer) -> Words
         Answer::Value { width, value } => Words {
             state: 0,
             width: width as u64,
-            value: value,
+            value,
         },
         Answer::Failed(failure) => Words {
             state: failure_number(failure),
@@ -36,15 +36,10 @@ pub fn words_of(answer: Answer) -> Words
 pub fn same(a: Words, b: Words) -> bool
     ensures { result ≡ (eqb a.state b.state && eqb a.width b.width && eqb a.value b.value) }
 {
-    if a.state != b.state {
-        return false;
-    }
-    if a.width != b.width {
-        return false;
-    }
-    a.value == b.value
+    a == b
 }
 
+// A From would stand in meaning, away from the words.
 fn failure_number(failure: Failure) -> u64
     ensures { result ≡ failure_number failure }
 {

@@ -21,9 +21,10 @@ pub fn ones_of(width: u32) -> u64
     ensures { result ≡ ones width }
 {
     if width == 64 {
-        return 18446744073709551615;
+        u64::MAX
+    } else {
+        power_of_two(width as u64) - 1
     }
-    power_of_two(width as u64) - 1
 }
 
 // Inner: bit `place` of a program.
@@ -56,11 +57,9 @@ pub fn join(high: u64, place: u64, low: u64) -> u64
 pub fn word_fits(word: u64, width: u64) -> bool
     ensures { result ≡ word_fits word width }
 {
-    if width > 64 {
-        return false;
+    match width {
+        0..=63 => word < power_of_two(width),
+        64 => true,
+        _ => false,
     }
-    if width == 64 {
-        return true;
-    }
-    word < power_of_two(width)
 }

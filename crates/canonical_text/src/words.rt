@@ -20,8 +20,8 @@ fn write_counted<W: Write>(out: &mut W, words: &[u32], per_line: usize) -> io::R
 {
     let count = words.len();
     write!(out, "{count}")?;
-    for place in 0..words.len() {
-        write_word(out, words[place], place % per_line == 0)?;
+    for (place, word) in words.iter().enumerate() {
+        write_word(out, *word, place % per_line == 0)?;
     }
     out.write_all(b"\n")
 }

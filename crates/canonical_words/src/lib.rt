@@ -3,19 +3,17 @@
 #![tactic(auto)]
 
 ghost use Rattle.std.specs.Prelude.{◌≡◌};
+ghost use Rattle.meaning.specs.Rules.Calls.{canonical_said};
 ghost use Rattle.canonical_words.specs.Words.{canonical_words};
 
-use meaning::Canonical;
+use meaning::{Canonical, Refusal};
 
-// Number, node, how many node words the canonical list has and how many pool entries.
-pub fn four_words(canonical: Canonical) -> [u64; 4]
-    ensures { result ≡ canonical_words canonical }
+// Number, node, how many node words the canonical list has and how many pool entries; of a refusal "other fields zero".
+pub fn four_words(canonical: Result<Canonical, Refusal>) -> [u64; 4]
+    ensures { result ≡ canonical_words (canonical_said canonical) }
 {
-    let refusal = canonical.refusal;
-    [
-        refusal.number as u64,
-        refusal.node as u64,
-        canonical.nodes as u64,
-        canonical.pool as u64,
-    ]
+    match canonical {
+        Ok(list) => [0, 0, list.nodes as u64, list.pool as u64],
+        Err(refusal) => [refusal.number as u64, refusal.node as u64, 0, 0],
+    }
 }

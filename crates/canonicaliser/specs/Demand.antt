@@ -4,8 +4,8 @@
 use Rattle.std.specs.Prelude.{ℕ, ◌≤◌, ◌<◌, ◌≡◌, refl, List, ◌++◌, true, length, take, drop}
 use Rattle.std.proofs.Common.{sym, ap, ap₂, ◌∙◌, take_at}
 use borrow.Author.Tests.{eq-eqb}
-use Rattle.meaning.specs.declared.Separation.{Separation}
-use Rattle.meaning.specs.declared.Canonical.{Canonical}
+use Rattle.meaning.specs.Rules.Separation.{Separation}
+use Rattle.meaning.specs.Rules.Calls.{Canonical}
 use Rattle.meaning.specs.Rules.Kinds.{kind_of, is_plain}
 use Rattle.meaning.specs.Rules.Trees.{node_count, kind_at}
 use Rattle.meaning.specs.Rules.Layout.{work_for}

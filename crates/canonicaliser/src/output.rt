@@ -4,25 +4,15 @@
 ghost use Rattle.std.specs.Prelude.{◌≡◌, ◌*◌, ◌≤◌, length};
 ghost use Rattle.meaning.specs.Rules.Limits.{most_nodes};
 ghost use Rattle.meaning.specs.Rules.Trees.{node_count};
+ghost use Rattle.meaning.specs.Rules.Calls.{canonical_result};
 ghost use Rattle.listed.specs.Listing.{Listing};
-ghost use Rattle.canonicaliser.specs.Outcome.{refused_with, fit_words, list_answer, list_nodes, list_pool};
+ghost use Rattle.canonicaliser.specs.Outcome.{fit_words, list_answer, list_nodes, list_pool};
 
 use list_output::{pool_length, write_nodes, write_pool};
 use meaning::limits::{MOST_NODES, MOST_POOL, WORDS_PER_NODE};
-use meaning::numbers::{DONE, SHORT_OUTPUT};
+use meaning::numbers::SHORT_OUTPUT;
 use meaning::{Canonical, Refusal};
 use refusals::require;
-
-// "other fields zero"
-pub(crate) fn refused(refusal: Refusal) -> Canonical
-    ensures { result ≡ refused_with refusal }
-{
-    Canonical {
-        refusal: refusal,
-        nodes: 0,
-        pool: 0,
-    }
-}
 
 // Do so many nodes and pool entries keep within the limits and within slices of that length?
 fn fits(count: usize, entries: usize, node_room: usize, pool_room: usize) -> bool
@@ -49,24 +39,20 @@ pub(crate) fn put_list(
     count: usize,
     out_nodes: &mut [u32],
     out_pool: &mut [u32],
-) -> Canonical
+) -> Result<Canonical, Refusal>
     requires listing { Listing nodes.now pool.now work.now count }
     requires nodes_bound { node_count nodes.now ≤ most_nodes }
-    ensures value { result ≡ list_answer nodes.now pool.now (length out_nodes.old) (length out_pool.old) }
+    ensures value { result ≡ canonical_result (list_answer nodes.now pool.now (length out_nodes.old) (length out_pool.old)) }
     ensures out_nodes_after { out_nodes.new ≡ list_nodes nodes.now pool.now out_nodes.old (length out_pool.old) }
     ensures out_pool_after { out_pool.new ≡ list_pool nodes.now pool.now (length out_nodes.old) out_pool.old }
 {
     let entries = pool_length(work, count);
     let room = fits(count, entries, out_nodes.len(), out_pool.len());
-    let refusal = require(room, SHORT_OUTPUT);
-    if refusal.number != DONE {
-        return refused(refusal);
-    }
+    require(room, SHORT_OUTPUT)?;
     write_nodes(work, count, out_nodes);
     write_pool(nodes, pool, work, count, out_pool);
-    Canonical {
-        refusal: refusal,
+    Ok(Canonical {
         nodes: (count * WORDS_PER_NODE) as u32,
         pool: entries as u32,
-    }
+    })
 }

@@ -6,7 +6,6 @@ use canonical_text::{write_term, write_words};
 use canonicaliser::canonicalize_expr;
 use list_room::written::work_room;
 use list_room::{node_room, pool_room};
-use meaning::numbers::DONE;
 use refusal_text::write_refusal;
 use sizes::work_for;
 use std::io;
@@ -51,22 +50,21 @@ fn canonicalize_into<W: Write, T: Write>(
     requires work_room_in_bounds { work_room ≤ length work.old }
 {
     let asked = work_for(nodes, pool);
-    let canonical = canonicalize_expr(nodes, pool, &mut work[..asked], out_nodes, out_pool);
-    let refusal = canonical.refusal;
-    if refusal.number == DONE {
-        return write_starts(
+    match canonicalize_expr(nodes, pool, &mut work[..asked], out_nodes, out_pool) {
+        Ok(list) => write_starts(
             out,
             term,
             out_nodes,
-            canonical.nodes as usize,
+            list.nodes as usize,
             out_pool,
-            canonical.pool as usize,
-        );
+            list.pool as usize,
+        ),
+        Err(refusal) => write_refusal(out, refusal),
     }
-    write_refusal(out, refusal)
 }
 
-// The list stands at the start of what was lent for it.
+// The list stands at the start of what was lent for it. The counts are lent, and not the parts cut off where the list is
+// answered: that they are within the outputs is shown in one place so.
 fn write_starts<W: Write, T: Write>(
     out: &mut W,
     term: &mut T,

@@ -3,48 +3,42 @@
 // specs/CaseRows.antt.
 #![tactic(auto)]
 
-ghost use Rattle.std.specs.Prelude.{◌≡◌, ◌≤◌, length};
+ghost use Rattle.std.specs.Prelude.{◌≡◌, ◌<◌, ◌≤◌, true, length, IfOk, IfSome};
+ghost use Rattle.decimals.specs.Claims.{Ahead};
 ghost use Rattle.decimals.specs.Rows.{filled};
-ghost use Rattle.case_rows.specs.CaseRows.{case_row, checked, within};
+ghost use Rattle.case_rows.specs.CaseRows.{case_row, within};
 
-use decimals::{Row, next_row};
+use decimals::{Bad, next_row};
 
-// The largest at a place where every word may stand, 2^64 - 1
-pub const ANY_WORD: u64 = 18446744073709551615;
+// The largest at a place where every word may stand
+pub const ANY_WORD: u64 = u64::MAX;
 
-// Inner: a row with a word that may not stand at its place is bad where it begins. The lent places are scratch where the
-// answer is End or Bad. The caller has a largest word for each place.
-pub fn next_case_row(text: &[u8], at: usize, row: &mut [u64], largest: &[u64]) -> Row
+// Inner: a row with a word that may not stand at its place is bad where it begins. The lent places are scratch where there
+// is no row. The caller has a largest word for each place.
+pub fn next_case_row(
+    text: &[u8],
+    at: usize,
+    row: &mut [u64],
+    largest: &[u64],
+) -> Result<Option<usize>, Bad>
     requires { length row.old ≤ length largest.now }
     ensures value { result ≡ case_row text.now at row.old largest.now }
     ensures row_after { row.new ≡ filled text.now at row.old }
+    ensures gets_on { 0 < length row.old → IfOk result (λ found. IfSome found (λ next. Ahead at next (length text.now))) }
+    ensures fits { IfOk result (λ found. IfSome found (λ next. within row.new largest.now ≡ true)) }
 {
-    let reading = next_row(text, at, row);
-    match reading {
-        Row::Whole(next) => checked(row, largest, at, next),
-        Row::End => Row::End,
-        Row::Bad(offset) => Row::Bad(offset),
+    let Some(next) = next_row(text, at, row)? else {
+        return Ok(None);
+    };
+    if !is_within(row, largest) {
+        return Err(Bad { offset: at });
     }
-}
-
-fn checked(row: &[u64], largest: &[u64], at: usize, next: usize) -> Row
-    requires { length row.now ≤ length largest.now }
-    ensures { result ≡ checked row.now largest.now at next }
-{
-    if is_within(row, largest) {
-        return Row::Whole(next);
-    }
-    Row::Bad(at)
+    Ok(Some(next))
 }
 
 fn is_within(row: &[u64], largest: &[u64]) -> bool
     requires { length row.now ≤ length largest.now }
     ensures { result ≡ within row.now largest.now }
 {
-    for place in 0..row.len() {
-        if row[place] > largest[place] {
-            return false;
-        }
-    }
-    true
+    row.iter().zip(largest).all(|(word, most)| word <= most)
 }

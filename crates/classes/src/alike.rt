@@ -10,7 +10,7 @@ ghost use Rattle.classes.specs.Alike.{Rows, same_classes};
 
 use columns::{CLASS, MARK, get};
 use lists::children::children_of;
-use nodes::{datum_of, kind_of, wide};
+use nodes::{datum_of, kind_word, wide};
 
 // Inner: the lowest of the first `limit` nodes of the first list that has the tree of node j, which is reached; `limit`
 // where none has it.
@@ -37,7 +37,7 @@ pub(crate) fn lowest_alike(
 }
 
 // Is node i of the first list reached, and of the same tree as node j? The words are asked first: most nodes differ in
-// them.
+// them. The kind word and not the kind, which the four registers share.
 fn alike(
     first_nodes: &[u32],
     first_pool: &[u32],
@@ -53,7 +53,7 @@ fn alike(
     requires j_nonzero { 0 < mark_of nodes.now pool.now j }
     ensures { result ≡ has_tree first_nodes.now first_pool.now (tree_of nodes.now pool.now j) i }
 {
-    if kind_of(first_nodes, i) != kind_of(nodes, j) {
+    if kind_word(first_nodes, i) != kind_word(nodes, j) {
         return false;
     }
     if datum_of(first_nodes, i) != datum_of(nodes, j) {

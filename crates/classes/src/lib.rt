@@ -10,7 +10,7 @@
 
 mod alike;
 
-ghost use Rattle.std.specs.Prelude.{◌≡◌, ◌<◌, min};
+ghost use Rattle.std.specs.Prelude.{◌≡◌, ◌<◌};
 ghost use Rattle.meaning.specs.Rules.Trees.{same, node_count, root_of};
 ghost use Rattle.columns.specs.Columns.{class_column, with_column};
 ghost use Rattle.classes.specs.Classes.{class_at};
@@ -78,17 +78,9 @@ fn class_of_node(
     if get(work, MARK, base + j) == 0 {
         return n as u64;
     }
-    let limit = lower(base + j, n);
-    lowest_alike(first_nodes, first_pool, limit, nodes, pool, base, j, work) as u64
-}
 
-// Of the first list itself only the nodes before node j are asked, so that a node like none before it is its own
-// class; of a second list all.
-fn lower(a: usize, b: usize) -> usize
-    ensures { result ≡ min a b }
-{
-    if a < b {
-        return a;
-    }
-    b
+    // Of the first list itself only the nodes before node j are asked, so that a node like none before it is its own
+    // class; of a second list all.
+    let limit = (base + j).min(n);
+    lowest_alike(first_nodes, first_pool, limit, nodes, pool, base, j, work) as u64
 }

@@ -3,26 +3,13 @@ use Prim.Native.Nat.{ℕ, zero, suc, ◌+◌, ◌*◌, ◌≤◌, ◌<◌}
 use Rattle.std.specs.Prelude.{◌≡◌, ◌≢◌, cond, length, get_or, replicate, eqb}
 use Rattle.std.proofs.Math.Path.{refl, sym, ap, ap₂, subst}
 use Rattle.std.proofs.Common.{◌∙◌, add-one, arith, get_or-set_same, eq-eqb, ne_eqb}
-use mathlib.Core.List.{List, [], ◌∷◌}
+use mathlib.Core.List.{List}
 use Rattle.std.proofs.Math.Decide.{ℕ_discrete}
 use Rattle.std.proofs.Math.ListN.{set, length-set}
-use Rattle.std.proofs.Math.Seq.{get_or-set_other}
+use Rattle.std.proofs.Math.Seq.{get_or-set_other, set-set, set_comm}
 use Rattle.meaning.specs.Rules.Limits.{work_per_node}
 use Rattle.meaning.specs.Rules.Lent.{cleared}
 use Rattle.columns.specs.Columns.{place, cell, Column, with_column}
-
--- ---- stores in a list
-set_again : (l : List ℕ) (i v w : ℕ) → set (set l i v) i w ≡ set l i w
-set_again [] i v w = refl
-set_again (x ∷ l) zero v w = refl
-set_again (x ∷ l) (suc i) v w = ap (λ (t : List ℕ). x ∷ t) (set_again l i v w)
-
-set_apart : (l : List ℕ) (i j v w : ℕ) → i ≢ j → set (set l i v) j w ≡ set (set l j w) i v
-set_apart [] i j v w h = refl
-set_apart (x ∷ l) zero zero v w h = absurd (h refl)
-set_apart (x ∷ l) zero (suc j) v w h = refl
-set_apart (x ∷ l) (suc i) zero v w h = refl
-set_apart (x ∷ l) (suc i) (suc j) v w h = ap (λ (t : List ℕ). x ∷ t) (set_apart l i j v w (λ e. h (ap suc e)))
 
 -- clearing depends on the length alone: what was written before does not matter
 pub cleared_alike : (v w : List ℕ) → length v ≡ length w → cleared v ≡ cleared w
@@ -99,11 +86,11 @@ module _ (q base : ℕ) where
   with_stored (suc n) f work i v h = elim (ℕ_discrete i n) [
     | yes e ↦
         ap (λ (x : ℕ). set (set (with_column q base n f work) (place q (base + n)) (f n)) (place q (base + x)) v) e
-        ∙ set_again (with_column q base n f work) (place q (base + n)) (f n) v
+        ∙ set-set (with_column q base n f work) (place q (base + n)) (f n) v
         ∙ ap₂ (λ (w : List ℕ) (x : ℕ). set w (place q (base + n)) x)
         (with_same n f (changed f i v) work (λ j l. sym (other j (omega arith)))) (sym (here n (sym e)))
     | no e ↦
-        set_apart (with_column q base n f work) (place q (base + n)) (place q (base + i)) (f n) v (λ p. e (omega arith))
+        set_comm (with_column q base n f work) (place q (base + n)) (place q (base + i)) (f n) v (λ p. e (omega arith))
         ∙ ap₂ (λ (w : List ℕ) (x : ℕ). set w (place q (base + n)) x) (with_stored n f work i v (omega arith)) (sym (other n (λ p. e (sym p))))
   ]
     where
@@ -120,7 +107,7 @@ module _ (q base : ℕ) where
   with_beside zero f work k v apart = refl
   with_beside (suc n) f work k v apart =
       ap (λ (w : List ℕ). set w (place q (base + n)) (f n)) (with_beside n f work k v (λ i l. apart i (omega arith)))
-      ∙ set_apart (with_column q base n f work) k (place q (base + n)) v (f n) (apart n (omega arith))
+      ∙ set_comm (with_column q base n f work) k (place q (base + n)) v (f n) (apart n (omega arith))
 
   -- a column written twice holds what was written last
   pub with_again : (n : ℕ) (f g : ℕ → ℕ) (work : List ℕ) → with_column q base n f (with_column q base n g work) ≡ with_column q base n f work
@@ -129,5 +116,5 @@ module _ (q base : ℕ) where
   with_again (suc n) f g work =
       ap (λ (w : List ℕ). set w (place q (base + n)) (f n))
       (with_beside n f (with_column q base n g work) (place q (base + n)) (g n) (λ i l e. absurd (omega arith)))
-      ∙ set_again (with_column q base n f (with_column q base n g work)) (place q (base + n)) (g n) (f n)
+      ∙ set-set (with_column q base n f (with_column q base n g work)) (place q (base + n)) (g n) (f n)
       ∙ ap (λ (w : List ℕ). set w (place q (base + n)) (f n)) (with_again n f g work)

@@ -74,10 +74,9 @@ pub fn put(work: &mut [u64], column: usize, row: usize, word: u64)
 }
 
 // "Work space is .. all zeros after the call": the whole of it, however long. Any slice.
+#[tactic(auto, unfolding(meaning::specs::Rules::Lent::cleared))]
 pub fn clear(work: &mut [u64])
     ensures { work.new ≡ cleared work.old }
 {
-    for i in 0..work.len() {
-        work[i] = 0;
-    }
+    work.fill(0);
 }

@@ -1,9 +1,9 @@
 // Two lists from standard input, the second behind the first and nothing behind the second.
 ghost use Rattle.list_room.specs.Written.{Taken};
 
-use super::files::compare_found;
-use list_files::{Text, large_buffer, read_text};
-use list_parts::{Found, ends, find_list};
+use super::two_lists;
+use list_files::{large_buffer, read_text};
+use list_parts::{ends, find_list};
 use list_room::written::{node_room, pool_room};
 use std::io;
 
@@ -15,7 +15,7 @@ pub(crate) fn compare_input(rt: &HostRuntime) -> io::Result<()> {
         b"standard input",
         &mut text,
     );
-    let Text::Bytes(n) = reading else {
+    let Some(n) = reading else {
         return Ok(());
     };
     compare_text(rt, b"standard input", &text[..n])
@@ -50,26 +50,20 @@ fn compare_parts(
     requires taken_2 { Taken second_nodes.old second_pool.old }
 {
     let mut err = rt.stderr();
-    let first = find_list(&mut err, name, text, 0, nodes, pool);
-    let Found::List {
-        words: _,
-        entries: _,
-        next,
-    } = first
-    else {
+    let Some(first) = find_list(&mut err, name, text, 0, nodes, pool) else {
         return Ok(());
     };
-    let second = find_list(&mut err, name, text, next, second_nodes, second_pool);
-    let Found::List {
-        words: _,
-        entries: _,
-        next: end,
-    } = second
-    else {
+    let Some(second) = find_list(&mut err, name, text, first.next, second_nodes, second_pool) else {
         return Ok(());
     };
-    if ends(&mut err, name, text, end) {
-        return compare_found(rt, first, nodes, pool, second, second_nodes, second_pool);
+    if !ends(&mut err, name, text, second.next) {
+        return Ok(());
     }
-    Ok(())
+    two_lists::compare(
+        rt,
+        &nodes[..first.words],
+        &pool[..first.entries],
+        &second_nodes[..second.words],
+        &second_pool[..second.entries],
+    )
 }

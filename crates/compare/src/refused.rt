@@ -2,8 +2,7 @@
 ghost use Rattle.std.specs.Prelude.{◌≤◌, length};
 ghost use Rattle.list_room.specs.Written.{pair_work_room, Taken};
 
-use meaning::Refusal;
-use meaning::numbers::{DONE, MANY_INPUTS, NOT_ALIGNED, OVER_LIMIT};
+use meaning::numbers::{MANY_INPUTS, NOT_ALIGNED, OVER_LIMIT};
 use sizes::sizes;
 use std::io;
 use std::io::Write;
@@ -33,13 +32,8 @@ fn is_first(number: u32, nodes: &[u32], pool: &[u32], work: &mut [u64]) -> bool
     requires pair_work_room_in_bounds { pair_work_room ≤ length work.old }
 {
     match number {
-        NOT_ALIGNED => is_refusing(sizes(nodes, pool)),
-        OVER_LIMIT => is_refusing(sizes(nodes, pool)),
+        NOT_ALIGNED | OVER_LIMIT => sizes(nodes, pool).is_err(),
         MANY_INPUTS => true,
-        _ => is_refusing(sound(nodes, pool, 0, work)),
+        _ => sound(nodes, pool, 0, work).is_err(),
     }
-}
-
-fn is_refusing(refusal: Refusal) -> bool {
-    refusal.number != DONE
 }

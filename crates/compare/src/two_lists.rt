@@ -10,7 +10,6 @@ use inputs::driving::no_variables;
 use list_room::written::pair_work_room;
 use long_searches::variables::variables_below;
 use long_searches::{is_accepted, write_warning};
-use meaning::numbers::DONE;
 use refusal_text::write_refusal;
 use std::io;
 
@@ -57,11 +56,11 @@ fn compare_in(
     if is_accepted(second_nodes, second_pool, work) {
         let _ = write_warning(&mut rt.stderr(), count, b" variables below the first root");
     }
-    let comparison = func_equiv(nodes, pool, second_nodes, second_pool, work);
-    let refusal = comparison.refusal;
-    if refusal.number == DONE {
-        return write_comparison(&mut rt.stdout(), comparison, &variables[..count]);
+    match func_equiv(nodes, pool, second_nodes, second_pool, work) {
+        Ok(comparison) => write_comparison(&mut rt.stdout(), comparison, &variables[..count]),
+        Err(refusal) => {
+            write_list(rt, refusal.number, nodes, pool, work)?;
+            write_refusal(&mut rt.stdout(), refusal)
+        }
     }
-    write_list(rt, refusal.number, nodes, pool, work)?;
-    write_refusal(&mut rt.stdout(), refusal)
 }

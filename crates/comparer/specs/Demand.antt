@@ -2,7 +2,7 @@
 use Rattle.std.specs.Prelude.{ℕ, ◌≤◌, ◌≡◌, ◌↔◌, ◌⊎◌, ◌≢◌, List, length}
 use Rattle.std.proofs.Common.{sym, ap, subst, ◌∙◌}
 use Rattle.meaning.specs.declared.Check.TheVariants.{Equiv}
-use Rattle.meaning.specs.declared.Comparison.{Comparison}
+use Rattle.meaning.specs.Rules.Comparison.{Comparison}
 use Rattle.meaning.specs.Rules.Limits.{most_inputs}
 use Rattle.meaning.specs.Rules.Trees.{root_of}
 use Rattle.meaning.specs.Rules.Assignments.{inputs}

@@ -1,15 +1,15 @@
 -- "the lowest assignment failing that decides": what a search from assignment 0 on answers, for trees that are not the same.
-use Rattle.std.specs.Prelude.{ℕ, ◌<◌, ◌≡◌, true, false, cond, eqb}
+use Rattle.std.specs.Prelude.{ℕ, ◌<◌, ◌≡◌, Bool, true, false, cond, eqb, Ok}
 use Rattle.std.proofs.Math.Path.{refl}
 use Rattle.std.proofs.Common.{ap, arith}
 use Rattle.std.proofs.Math.Bool.{not}
 use borrow.Author.Tests.{eq-eqb, ne_eqb}
 use Rattle.meaning.specs.declared.Answer.{Answer}
-use Rattle.meaning.specs.declared.Comparison.{Comparison}
+use Rattle.meaning.specs.Rules.Comparison.{Comparison}
 use Rattle.meaning.specs.Rules.Trees.{Tree, same}
 use Rattle.meaning.specs.Rules.Answers.{answer}
 use Rattle.meaning.specs.Rules.Assignments.{inputs, drive}
-use Rattle.meaning.specs.Rules.Comparison.{agree, decides, assignments, deciding_index, equivalent, decided_at, compare_trees}
+use Rattle.meaning.specs.Rules.Comparison.{agree, decides, assignments, deciding_index, equivalent, decided_at, compare_trees, found, comparison_result}
 use Rattle.meaning.proofs.Laws.SearchLaws.{NoneBelow, lowest_here, lowest_none}
 
 -- the answers of both trees at assignment i
@@ -48,3 +48,15 @@ module _ (t u : Tree) where
   searched_to i h none differ =
       let here : deciding_index t u ≡ i = lowest_here (decides (inputs t) t u) (assignments t) i h none (ap not differ) in
       rw (here, ne_eqb i (assignments t) (λ e. absurd (omega (arith, e, h)))) refl
+
+  -- ---- a search refuses nothing, so its result is what it found
+  pub searched_result : comparison_result (searched t u) ≡ Ok (found (searched t u))
+  unfolding searched
+  searched_result = by_end (eqb (deciding_index t u) (assignments t))
+    where
+      last : Comparison
+      last = decided_at (deciding_index t u) (first_answer t u (deciding_index t u)) (second_answer t u (deciding_index t u))
+
+      by_end : (b : Bool) → comparison_result (cond b equivalent last) ≡ Ok (found (cond b equivalent last))
+      by_end true = refl
+      by_end false = refl

@@ -3,6 +3,7 @@
 ghost use Rattle.std.specs.Prelude.{◌≡◌};
 ghost use Rattle.meaning.specs.Rules.Trees.{root_of};
 ghost use Rattle.meaning.specs.Rules.Assignments.{inputs};
+ghost use Rattle.meaning.specs.Rules.Comparison.{found};
 ghost use Rattle.inputs.specs.Driving.{Drivable};
 ghost use Rattle.trials.specs.Trial.{BothPrepared};
 ghost use Rattle.comparer.specs.Searched.{searched};
@@ -25,7 +26,7 @@ pub(crate) fn lowest_deciding(
     requires both_prepared { BothPrepared nodes.now pool.now second_nodes.now second_pool.now work.old }
     requires variables_value { variables.now ≡ inputs (root_of nodes.now pool.now) }
     requires drivable { Drivable variables.now bytes.old }
-    ensures { result ≡ searched (root_of nodes.now pool.now) (root_of second_nodes.now second_pool.now) }
+    ensures { result ≡ found (searched (root_of nodes.now pool.now) (root_of second_nodes.now second_pool.now)) }
 {
     let total = power_of_two(variables.len() as u64);
     for index in 0..total {

@@ -14,8 +14,7 @@ pub fn write_comparison<W: Write>(
     comparison: Comparison,
     variables: &[usize],
 ) -> io::Result<()> {
-    let verdict = comparison.verdict;
-    match verdict {
+    match comparison.verdict {
         Check::Equiv => {
             out.write_all(b"equivalent: the same tree, or one equal value under every assignment\n")
         }
@@ -42,20 +41,18 @@ fn write_decided<W: Write>(
 }
 
 fn write_answers<W: Write>(out: &mut W, comparison: Comparison) -> io::Result<()> {
-    let first = comparison.first;
-    let second = comparison.second;
     out.write_all(b"  first list: ")?;
-    write_answer(out, first)?;
+    write_answer(out, comparison.first)?;
     out.write_all(b"  second list: ")?;
-    write_answer(out, second)
+    write_answer(out, comparison.second)
 }
 
 // "bit j of assignment i drives the j-th smallest variable below the first root"
 fn write_assignment<W: Write>(out: &mut W, index: u64, variables: &[usize]) -> io::Result<()> {
     let mut bits = index;
-    for j in 0..variables.len() {
-        write_line(out, variables[j], bits % 2)?;
-        bits = bits / 2;
+    for variable in variables {
+        write_line(out, *variable, bits % 2)?;
+        bits /= 2;
     }
     Ok(())
 }

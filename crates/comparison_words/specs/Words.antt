@@ -1,6 +1,6 @@
 -- A comparison's result as words: its number and node, the verdict, the index, and both answers.
 use Rattle.std.specs.Prelude.{ℕ, List}
-use Rattle.meaning.specs.declared.Comparison.{Comparison}
+use Rattle.meaning.specs.Rules.Comparison.{Comparison}
 use Rattle.meaning.specs.Rules.Verdict.{check_number}
 use Rattle.result_words.specs.Words.{result_words}
 

@@ -3,7 +3,9 @@ use Rattle.std.specs.Prelude.{ℕ, ◌≡◌, refl, List, ◌∷◌, true, ◌&&
 use Rattle.std.proofs.Common.{ap, ap₂, ◌∙◌, arith, eq-eqb}
 use Rattle.std.proofs.Math.Bool.{or-true}
 use Rattle.meaning.specs.declared.Answer.{Answer}
-use Rattle.meaning.specs.Rules.Kinds.{Kind, Const, Program, DC, Var, Nor, Mux, And, Xor, Not, Lut, Bus, Reg, Arg, Cycle, Unknown, kind_of, variable_word}
+use Rattle.meaning.specs.declared.kinds.Kind.{Kind}
+use Rattle.meaning.specs.declared.kinds.Kind.TheVariants.{Const, Program, DC, Var, Nor, Mux, And, Xor, Not, Lut, Bus, Reg, Arg, Cycle, Unknown}
+use Rattle.meaning.specs.Rules.Kinds.{kind_of, variable_word}
 use Rattle.meaning.specs.Rules.Trees.{Tree, Forest, node, none, ◌◂◌}
 use Rattle.meaning.proofs.Laws.KindLaws.{word_of, kind_word}
 use Rattle.meaning.specs.Rules.Answers.{Assignment, driven, step, answer, answers}

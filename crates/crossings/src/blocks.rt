@@ -1,6 +1,7 @@
 // The search block by block. A block is an assignment with its run bits clear, the base, and all that differ from it in
 // run bits alone: the base is the cleared self of each, so it is answered once. The blocks are gone through in the
 // order of their bases and not in that of the assignments, so the lowest so far is kept, and nothing above it is tried.
+// Both walks ask the next word of the one before: an iterator of them would begin elsewhere in each, and say no more.
 ghost use Rattle.std.specs.Prelude.{◌≡◌, ◌<◌, length};
 ghost use Rattle.meaning.specs.Rules.Trees.{root_of};
 ghost use Rattle.meaning.specs.Rules.Assignments.{upto};

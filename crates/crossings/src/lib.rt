@@ -6,7 +6,7 @@
 // - the assignments that differ in run bits alone are a block, and their cleared self is answered once (specs/Blocks);
 // - and so that a low crossing is found soon whatever the marks are, it goes by stages, each of a few variables more
 //   than the one before (specs/Stages).
-// A caller has a list accepted and number 11 behind it, and calls `lowest_crossing`; 2^n says that there is none.
+// A caller has a list accepted and number 11 behind it, and calls `lowest_crossing`.
 #![tactic(auto)]
 
 mod blocks;
@@ -20,14 +20,14 @@ ghost use Rattle.meaning.specs.Rules.Separation.{crosses, crossing_index};
 ghost use Rattle.rows.specs.Rows.{Prepared};
 ghost use Rattle.inputs.specs.Driving.{Drivable};
 ghost use Rattle.input_bits.specs.Seen.{IsMask};
-ghost use Rattle.crossings.specs.Searching.{Searchable};
+ghost use Rattle.crossings.specs.Searching.{Searchable, IsLowestBelow, crossing_found};
 
 use bits::{low_bits, power_of_two};
 use blocks::lowest_of_blocks;
 use stages::next_stage;
 
-// Inner: the number of the lowest crossing of the n variables, or 2^n. `inputs` has the variables below the root,
-// `marks` the run signals.
+// Inner: the number of the lowest crossing of the n variables, if there is one. `inputs` has the variables below the
+// root, `marks` the run signals.
 pub fn lowest_crossing(
     nodes: &[u32],
     pool: &[u32],
@@ -36,27 +36,28 @@ pub fn lowest_crossing(
     marks: u64,
     bytes: &mut [u8],
     work: &mut [u64],
-) -> u64
+) -> Option<u64>
     requires searchable { Searchable nodes.now pool.now variables.now inputs marks }
     requires prepared { Prepared nodes.now pool.now 0 work.old }
     requires drivable { Drivable variables.now bytes.old }
-    ensures value { result ≡ crossing_index (root_of nodes.now pool.now) (length variables.now) marks }
+    ensures value { result ≡ crossing_found (root_of nodes.now pool.now) (length variables.now) marks }
     ensures prepared_2 { Prepared nodes.now pool.now 0 work.new }
     ensures drivable_2 { Drivable variables.now bytes.new }
 {
     let n = variables.len();
-    let mut places: usize = 0;
+    let mut places = 0;
     while power_of_two(places as u64) <= inputs {
         places = next_stage(inputs, places, n);
-        let found = lowest_of_stage(nodes, pool, variables, inputs, marks, places, bytes, work);
-        if found < power_of_two(places as u64) {
-            return found;
+        if let Some(index) = lowest_of_stage(
+            nodes, pool, variables, inputs, marks, places, bytes, work,
+        ) {
+            return Some(index);
         }
     }
-    power_of_two(n as u64)
+    None
 }
 
-// The lowest crossing of the first `places` variables, or 2^places.
+// The lowest crossing of the first `places` variables, if there is one.
 fn lowest_of_stage(
     nodes: &[u32],
     pool: &[u32],
@@ -66,20 +67,21 @@ fn lowest_of_stage(
     places: usize,
     bytes: &mut [u8],
     work: &mut [u64],
-) -> u64
+) -> Option<u64>
     requires searchable { Searchable nodes.now pool.now variables.now inputs marks }
     requires places_in_bounds { places ≤ length variables.now }
     requires prepared { Prepared nodes.now pool.now 0 work.old }
     requires drivable { Drivable variables.now bytes.old }
-    ensures value { result ≡ lowest (crosses (root_of nodes.now pool.now) (length variables.now) marks) (2 ^ places) }
+    ensures value { IsLowestBelow (crosses (root_of nodes.now pool.now) (length variables.now) marks) (2 ^ places) result }
     ensures prepared_2 { Prepared nodes.now pool.now 0 work.new }
     ensures drivable_2 { Drivable variables.now bytes.new }
 {
     let marked = low_bits(inputs & marks, places as u64);
     let limit = power_of_two(places as u64);
     if marked == 0 {
-        return limit;
+        return None;
     }
     let free = low_bits(inputs & !marks, places as u64);
-    lowest_of_blocks(nodes, pool, variables, free, marked, limit, bytes, work)
+    let found = lowest_of_blocks(nodes, pool, variables, free, marked, limit, bytes, work);
+    if found < limit { Some(found) } else { None }
 }

@@ -1,17 +1,16 @@
 -- Words byte by byte: one law for each thing that the code meets on its way through a text.
-use Rattle.std.specs.Prelude.{ℕ, ◌+◌, ◌-◌, ◌/◌, ◌≤◌, ◌<◌, ◌≡◌, true, false, List, length, drop, get_or, leb}
+use Rattle.std.specs.Prelude.{ℕ, ◌+◌, ◌-◌, ◌/◌, ◌≤◌, ◌<◌, ◌≡◌, true, false, List, length, drop, get_or, leb, Ok, None}
 use Rattle.std.proofs.Common.{sym, ◌∙◌, arith, drop_of_length-le, drop-cons, le-leb, leb-true}
 use Rattle.std.proofs.Math.Bool.{and-false, and-eq-true_iff}
 use Rattle.std.proofs.Math.Numerals.{add-one}
 use Rattle.std.proofs.lemmas.Bool.{lt-leb}
 use Rattle.std.proofs.Math.Decide.{dec_le}
-use Rattle.decimals.specs.declared.Word.TheVariants.{Value, End, Bad}
-use Rattle.decimals.specs.Words.{is_blank, is_digit, with_digit, largest, extends, number, word}
+use Rattle.decimals.specs.Words.{word_of, bad_at, found, is_blank, is_digit, with_digit, largest, extends, number, word}
 
 -- ---- one byte at a time, as a loop goes through the text
 
 module _ (text : List ℕ) (i : ℕ) where
-  pub word_end : length text ≤ i → word i (drop i text) ≡ End
+  pub word_end : length text ≤ i → word i (drop i text) ≡ Ok None
   unfolding word
   word_end h = rw (drop_of_length-le text h)
 
@@ -19,20 +18,20 @@ module _ (text : List ℕ) (i : ℕ) where
   unfolding word
   word_blank h b = rw (drop-cons text i 0 h, b, add-one i)
 
-  pub word_number : i < length text → is_blank (get_or text i 0) ≡ false → word i (drop i text) ≡ number 0 i (drop i text)
+  pub word_number : i < length text → is_blank (get_or text i 0) ≡ false → word i (drop i text) ≡ found (number 0 i (drop i text))
   unfolding word
   word_number h b = rw (drop-cons text i 0 h, b)
 
-  pub number_end : (v : ℕ) → length text ≤ i → number v i (drop i text) ≡ Value v i
+  pub number_end : (v : ℕ) → length text ≤ i → number v i (drop i text) ≡ Ok (word_of v i)
   unfolding number
   number_end v h = rw (drop_of_length-le text h)
 
-  pub number_blank : (v : ℕ) → i < length text → is_blank (get_or text i 0) ≡ true → number v i (drop i text) ≡ Value v i
+  pub number_blank : (v : ℕ) → i < length text → is_blank (get_or text i 0) ≡ true → number v i (drop i text) ≡ Ok (word_of v i)
   unfolding number
   number_blank v h b = rw (drop-cons text i 0 h, b)
 
   pub number_bad : (v : ℕ) → i < length text → is_blank (get_or text i 0) ≡ false → extends v (get_or text i 0) ≡ false
-      → number v i (drop i text) ≡ Bad i
+      → number v i (drop i text) ≡ bad_at i
   unfolding number
   number_bad v h b e = rw (drop-cons text i 0 h, b, e)
 

@@ -1,7 +1,23 @@
 -- The decimal word that stands in a text of bytes from an offset on.
-use Rattle.std.specs.Prelude.{ℕ, suc, ◌+◌, ◌-◌, ◌*◌, Bool, cond, ◌&&◌, ◌||◌, List, [], ◌∷◌, drop, leb, eqb}
+use Rattle.std.specs.Prelude.{ℕ, suc, ◌+◌, ◌-◌, ◌*◌, Bool, cond, ◌&&◌, ◌||◌, List, [], ◌∷◌, drop, leb, eqb, Option, Some, None, Result, Ok, Err}
 use Rattle.decimals.specs.declared.Word.{Word}
-use Rattle.decimals.specs.declared.Word.TheVariants.{Value, End, Bad}
+use Rattle.decimals.specs.declared.Bad.{Bad}
+
+-- the word v, with the offset behind it
+abbrev pub word_of : ℕ → ℕ → Word ℕ
+word_of v next = record { value = v; next = next }
+
+-- no word, for what stands at offset i
+abbrev pub bad_at : {A : Type 0} → ℕ → Result A Bad
+bad_at i = Err (record { offset = i })
+
+-- what stands somewhere: a word, or nothing but blanks
+abbrev pub Reading : Type 0
+Reading = Result (Option (Word ℕ)) Bad
+
+abbrev pub found : Result (Word ℕ) Bad → Reading
+found (Ok w) = Ok (Some w)
+found (Err e) = Err e
 
 -- a blank is a space, a tab, a carriage return or a line feed
 unfoldable pub is_blank : ℕ → Bool
@@ -23,16 +39,21 @@ largest = 18446744073709551615
 unfoldable pub extends : ℕ → ℕ → Bool
 extends v b = is_digit b && leb (with_digit v b) largest
 
+-- the number that they are together, if they are one
+abbrev pub extended : ℕ → ℕ → Option ℕ
+extended v b = cond (extends v b) (Some (with_digit v b)) None
+
 -- at offset i, inside a number that is v so far: a blank or the end of the text ends it
-unfoldable pub number : ℕ → ℕ → List ℕ → Word
-number v i [] = Value v i
-number v i (b ∷ rest) = cond (is_blank b) (Value v i) (cond (extends v b) (number (with_digit v b) (suc i) rest) (Bad i))
+unfoldable pub number : ℕ → ℕ → List ℕ → Result (Word ℕ) Bad
+number v i [] = Ok (word_of v i)
+number v i (b ∷ rest) =
+    cond (is_blank b) (Ok (word_of v i)) (cond (extends v b) (number (with_digit v b) (suc i) rest) (bad_at i))
 
 -- at offset i, in front of a number: blanks are passed over
-unfoldable pub word : ℕ → List ℕ → Word
-word i [] = End
-word i (b ∷ rest) = cond (is_blank b) (word (suc i) rest) (number 0 i (b ∷ rest))
+unfoldable pub word : ℕ → List ℕ → Reading
+word i [] = Ok None
+word i (b ∷ rest) = cond (is_blank b) (word (suc i) rest) (found (number 0 i (b ∷ rest)))
 
 -- what stands from the offset on; past the end of the text, nothing
-unfoldable pub next_word : List ℕ → ℕ → Word
+unfoldable pub next_word : List ℕ → ℕ → Reading
 next_word text at = word at (drop at text)

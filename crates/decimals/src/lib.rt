@@ -6,90 +6,64 @@ mod rows;
 ghost use Rattle.std.specs.Prelude.{◌≡◌, true, ◌-◌, ◌≤◌, drop};
 ghost use Rattle.decimals.specs.Words as words;
 
-pub use rows::{Row, next_row};
+pub use rows::next_row;
 
-// What stands in a text from an offset on: a number, with the offset of the byte behind it; nothing but blanks; or a
-// byte that no word has there, with its offset.
-#[derive(Clone, Copy)]
-pub enum Word {
-    Value { value: u64, next: usize },
-    End,
-    Bad(usize),
+// A number that stands in a text, as a type that it fits, and the offset of the byte behind it.
+#[derive(Clone, Copy, Debug, PartialEq, Eq)]
+pub struct Word<T> {
+    pub value: T,
+    pub next: usize,
 }
 
-pub fn next_word(text: &[u8], at: usize) -> Word
+// A byte that no word has there, or the text's end where a word is owed: its offset.
+#[derive(Clone, Copy, Debug, PartialEq, Eq)]
+pub struct Bad {
+    pub offset: usize,
+}
+
+// What stands in a text from an offset on: a word, or nothing but blanks.
+pub fn next_word(text: &[u8], at: usize) -> Result<Option<Word<u64>>, Bad>
     ensures { result ≡ words.next_word text.now at }
 {
-    let mut i = at;
-    while i < text.len() {
+    for i in at..text.len() {
         if !is_blank(text[i]) {
-            return number_from(text, i);
+            return Ok(Some(number_from(text, i)?));
         }
-        i = i + 1;
     }
-    Word::End
+    Ok(None)
 }
 
-fn number_from(text: &[u8], start: usize) -> Word
+// The word grows by a digit at a time, up to a blank or the text's end.
+fn number_from(text: &[u8], start: usize) -> Result<Word<u64>, Bad>
     ensures { result ≡ words.number 0 start (drop start text.now) }
 {
-    let mut value: u64 = 0;
-    let mut i = start;
-    while i < text.len() {
-        let b = text[i];
-        if is_blank(b) {
-            return Word::Value {
-                value: value,
-                next: i,
-            };
+    let mut word = Word {
+        value: 0,
+        next: start,
+    };
+    for i in start..text.len() {
+        if is_blank(text[i]) {
+            break;
         }
-        if !extends(value, b) {
-            return Word::Bad(i);
-        }
-        value = with_digit(value, b);
-        i = i + 1;
+        word.value = with_digit(word.value, text[i]).ok_or(Bad { offset: i })?;
+        word.next = i + 1;
     }
-    Word::Value {
-        value: value,
-        next: i,
-    }
+    Ok(word)
 }
 
+#[tactic(auto, unfolding(crate::specs::Words::is_blank))]
 fn is_blank(b: u8) -> bool
     ensures { result ≡ words.is_blank b }
 {
-    match b {
-        b' ' => true,
-        b'\t' => true,
-        b'\r' => true,
-        b'\n' => true,
-        _ => false,
-    }
+    matches!(b, b' ' | b'\t' | b'\r' | b'\n')
 }
 
-// Whether the byte is a digit with which the value stays a u64; the test is turned round so that nothing wraps.
-fn extends(value: u64, b: u8) -> bool
-    ensures { result ≡ words.extends value b }
+// The value with a digit behind it, where the byte is a digit and the value stays a u64.
+fn with_digit(value: u64, b: u8) -> Option<u64>
+    ensures { result ≡ words.extended value b }
 {
-    if b < b'0' {
-        return false;
+    if !b.is_ascii_digit() {
+        return None;
     }
-    if b > b'9' {
-        return false;
-    }
-    value <= (18446744073709551615 - digit_of(b)) / 10
-}
-
-fn with_digit(value: u64, b: u8) -> u64
-    requires { words.extends value b ≡ true }
-    ensures { result ≡ words.with_digit value b }
-{
-    value * 10 + digit_of(b)
-}
-
-fn digit_of(b: u8) -> u64
-    requires { 48 ≤ b }
-    ensures { result ≡ b - 48 }
-{
-    (b - b'0') as u64
+    value.checked_mul(10)?.checked_add(u64::from(b - b'0'))
 }

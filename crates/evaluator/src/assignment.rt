@@ -8,6 +8,7 @@ use meaning::limits::VARIABLE_COUNT;
 use operators::UNDRIVEN_BYTE;
 
 // A slice that is too long is not read.
+#[tactic(auto, unfolding(meaning::specs::Rules::Assignments::is_assignment))]
 pub(crate) fn is_assignment(bytes: &[u8]) -> bool
     ensures { result ≡ is_assignment bytes.now }
 {
@@ -18,10 +19,5 @@ pub(crate) fn is_assignment(bytes: &[u8]) -> bool
 fn all_known(bytes: &[u8]) -> bool
     ensures { result ≡ every (λ b. leb b undriven_byte) bytes.now }
 {
-    for at in 0..bytes.len() {
-        if bytes[at] > UNDRIVEN_BYTE {
-            return false;
-        }
-    }
-    true
+    bytes.iter().all(|byte| *byte <= UNDRIVEN_BYTE)
 }

@@ -10,7 +10,8 @@ use columns::{STATE, VALUE, get};
 // the words of a pair
 pub(crate) const PAIR: usize = 2;
 
-// Hands on the pairs of the first n rows.
+// Hands on the pairs of the first n rows, by the number of the row: both columns are read at it, so a walk over the
+// output's pairs would count the rows all the same.
 pub(crate) fn write_pairs(work: &[u64], n: usize, out: &mut [u64])
     requires n_in_bounds { work_per_node * n ≤ length work.now }
     requires n_in_bounds_2 { 2 * n ≤ length out.old }

@@ -1,15 +1,18 @@
 -- Verification looks at a node's children no further than their kind word and datum (Rules/Verification, `wrong`); so does
 -- the code, and these laws say that it is enough.
-use Rattle.std.specs.Prelude.{ℕ, suc, ◌-◌, ◌^◌, ◌<◌, ◌≡◌, refl, List, [], ◌∷◌, Bool, true, false, cond, not, ◌&&◌, ◌||◌, length, get_or, ltb, leb, eqb}
+use Rattle.std.specs.Prelude.{ℕ, suc, ◌-◌, ◌^◌, ◌<◌, ◌≡◌, refl, List, [], ◌∷◌, Bool, true, cond, not, ◌&&◌, ◌||◌, length, get_or, ltb, leb, eqb}
 use Rattle.std.proofs.Common.{sym, ap, ap₂, subst, ◌∙◌, arith, ltb-true, lt-ltb, le-ltb, le-leb}
 use Rattle.std.proofs.Math.Bool.{or-true}
 use Rattle.std.proofs.Math.Decide.{dec_lt}
 use Rattle.std.proofs.lemmas.Bool.{lt-leb}
+use Rattle.std.proofs.lemmas.Grind.{get_or_default_zero}
 use Rattle.meaning.proofs.Laws.BoolLaws.{and_left, and_right}
 use Rattle.meaning.proofs.Laws.TreeLaws.{tree_at}
 use Rattle.meaning.specs.Rules.Limits.{most_operands}
 use Rattle.meaning.specs.Rules.Numbers.{not_verified}
-use Rattle.meaning.specs.Rules.Kinds.{Kind, Const, Program, DC, Var, Nor, Mux, And, Xor, Not, Lut, Bus, Reg, Arg, Cycle, Unknown, kind_of, program_word, bus_word}
+use Rattle.meaning.specs.declared.kinds.Kind.{Kind}
+use Rattle.meaning.specs.declared.kinds.Kind.TheVariants.{Const, Program, DC, Var, Nor, Mux, And, Xor, Not, Lut, Bus, Reg, Arg, Cycle, Unknown}
+use Rattle.meaning.specs.Rules.Kinds.{kind_of, program_word, bus_word}
 use Rattle.meaning.specs.Rules.Trees.{Tree, node, none, trees, forest, node_count, kind_at, datum_at, children_at, tree_of}
 use Rattle.meaning.specs.Rules.Refusals.{every, some}
 use Rattle.meaning.specs.Rules.Reach.{mark_of}
@@ -28,20 +31,14 @@ leaves ns ks = trees (forest (leaf_of ns) ks)
 abbrev pub AreNodes : List ℕ → List ℕ → Type 0
 AreNodes ns ks = (i : ℕ) → i < length ks → get_or ks i 0 < node_count ns
 
+-- a child, as a walk along the children meets it
+pub is_node : (ns ks : List ℕ) → AreNodes ns ks → (k i : ℕ) → i < length ks → k ≡ get_or ks i k → k < node_count ns
+is_node ns ks nodes k i h e = omega (arith, nodes i h, get_or_default_zero ks i k h)
+
 -- ---- tests of a list of children, by their words
 pub some_leaves : (ns : List ℕ) (p : Tree → Bool) (ks : List ℕ) → some p (leaves ns ks) ≡ some (λ k. p (leaf_of ns k)) ks
 some_leaves ns p [] = refl
 some_leaves ns p (k ∷ ks) = ap (λ (b : Bool). p (leaf_of ns k) || b) (some_leaves ns p ks)
-
-or_swap : (a b c d : Bool) → ((a || b) || (c || d)) ≡ ((a || c) || (b || d))
-or_swap true b c d = refl
-or_swap false true true d = refl
-or_swap false true false d = refl
-or_swap false false c d = refl
-
-pub some_or : (p q : Tree → Bool) (ts : List Tree) → some (λ t. p t || q t) ts ≡ (some p ts || some q ts)
-some_or p q [] = refl
-some_or p q (t ∷ ts) = ap (λ (b : Bool). (p t || q t) || b) (some_or p q ts) ∙ or_swap (p t) (q t) (some p ts) (some q ts)
 
 -- ---- a Lut's rule is the range test of the truth-table routines
 leaves_length : (ns ks : List ℕ) → length (leaves ns ks) ≡ length ks
@@ -72,30 +69,6 @@ lut_words ns (k ∷ ks) h l =
     let size : length (leaves ns ks) ≡ length (k ∷ ks) - 1 = omega (arith, leaves_length ns ks) in
     out_of_range (length (leaves ns ks)) (datum_at ns k) (not (eqb (kind_at ns k) program_word)) l
     ∙ ap (λ (m : ℕ). not (eqb (kind_at ns k) program_word) || not (table_fits (datum_at ns k) m)) size
-
-pub lut_none : (ns ks : List ℕ) → length ks ≡ 0 → lut_wrong (leaves ns ks) ≡ true
-lut_none ns [] h = refl
-lut_none ns (k ∷ ks) h = absurd (omega arith)
-
--- a Lut whose first child is no Program, whatever its words are
-pub lut_other : (ns ks : List ℕ) → 0 < length ks → eqb (kind_at ns (get_or ks 0 0)) program_word ≡ false → lut_wrong (leaves ns ks) ≡ true
-lut_other ns [] h e = absurd (omega arith)
-lut_other ns (k ∷ ks) h e =
-    rw e (go (ltb most_operands (length (leaves ns ks))) (ltb (length (leaves ns ks)) most_operands && leb (2 ^ (2 ^ length (leaves ns ks))) (datum_at ns k)))
-  where
-    go : (a b : Bool) → (a || true || b) ≡ true
-    go true b = refl
-    go false b = refl
-
--- ---- an Arg's
-pub arg_words : (ns : List ℕ) (depth : ℕ) (ks : List ℕ) → 0 < length ks
-    → arg_wrong depth (leaves ns ks) ≡ (not (eqb (kind_at ns (get_or ks 0 0)) program_word) || leb depth (datum_at ns (get_or ks 0 0)))
-arg_words ns depth [] h = absurd (omega arith)
-arg_words ns depth (k ∷ ks) h = refl
-
-pub arg_none : (ns : List ℕ) (depth : ℕ) (ks : List ℕ) → length ks ≡ 0 → arg_wrong depth (leaves ns ks) ≡ true
-arg_none ns depth [] h = refl
-arg_none ns depth (k ∷ ks) h = absurd (omega arith)
 
 -- ---- the children of a node, and the same without their children
 abbrev bare : Tree → Tree

@@ -1,6 +1,6 @@
 -- What `fold_lut` is asked and what it answers (document 01, "Canonical list", rules 1 to 3): the operands are numbers of
 -- rows, each of which tells of one tree whether it is a constant, and which.
-use Rattle.std.specs.Prelude.{ℕ, ◌+◌, ◌-◌, ◌*◌, ◌≤◌, ◌<◌, ◌≡◌, List, map, Bool, true, cond, length, get_or, take, eqb, ltb}
+use Rattle.std.specs.Prelude.{ℕ, ◌+◌, ◌-◌, ◌*◌, ◌≤◌, ◌<◌, ◌≡◌, List, map, Bool, true, cond, length, get_or, take, eqb, ltb, Option, Some, None}
 use Rattle.meaning.specs.Rules.Limits.{work_per_node}
 use Rattle.meaning.specs.Rules.Kinds.{const_word}
 use Rattle.meaning.specs.Rules.Trees.{Tree, datum}
@@ -10,8 +10,7 @@ use Rattle.meaning.specs.Rules.Tables.{cofactor, ignores}
 use Rattle.columns.specs.Columns.{cell, kind_column, datum_column}
 use Rattle.folding.specs.declared.Folded.{Folded}
 use Rattle.folding.specs.declared.Folded.TheVariants.{Constant, Operand, Lut}
-use Rattle.folding.specs.declared.dropping.Next.{Next}
-use Rattle.folding.specs.declared.dropping.Next.TheVariants.{Drop, Stay}
+use Rattle.folding.specs.declared.dropping.Dropped.{Dropped}
 
 -- ---- the operands
 abbrev pub Each : (ℕ → Type 0) → List ℕ → Type 0
@@ -60,10 +59,13 @@ constant_at work xs j = is_constant_row work (get_or xs j 0)
 abbrev pub ignored_at : ℕ → ℕ → ℕ → Bool
 ignored_at p k j = ignores p (k - 1) (k - 1 - j)
 
-unfoldable pub next_of : List ℕ → ℕ → List ℕ → Next
+abbrev pub drop : ℕ → ℕ → Option Dropped
+drop at q = Some (record { at = at; program = q })
+
+unfoldable pub next_of : List ℕ → ℕ → List ℕ → Option Dropped
 next_of work p xs =
     let k = length xs in
     let c = lowest (constant_at work xs) k in
     let e = lowest (ignored_at p k) k in
-    cond (ltb c k) (Drop c (cofactor p (k - 1) (k - 1 - c) (cell work datum_column (get_or xs c 0))))
-    (cond (ltb e k) (Drop e (cofactor p (k - 1) (k - 1 - e) 0)) Stay)
+    cond (ltb c k) (drop c (cofactor p (k - 1) (k - 1 - c) (cell work datum_column (get_or xs c 0))))
+    (cond (ltb e k) (drop e (cofactor p (k - 1) (k - 1 - e) 0)) None)

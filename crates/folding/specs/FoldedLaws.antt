@@ -1,6 +1,6 @@
 -- The rules over rows are those of meaning's `fold`: what is left after each of them folds to the same tree.
 use Prim.Native.Nat.{ℕ, zero, suc, ◌-◌, ◌≤◌, ◌<◌}
-use Rattle.std.specs.Prelude.{◌≡◌, refl, Bool, true, false, get_or, take, ltb, eqb}
+use Rattle.std.specs.Prelude.{◌≡◌, refl, Bool, true, false, get_or, take, ltb, eqb, Option, Some, None}
 use Rattle.std.proofs.Math.Path.{sym}
 use Rattle.std.proofs.Common.{ap, subst, ◌∙◌, length-take, get_or-take}
 use mathlib.Core.List.{List, [], ◌∷◌, map}
@@ -14,14 +14,13 @@ use Rattle.meaning.specs.Rules.Trees.{Tree, datum, nth_tree}
 use Rattle.meaning.specs.Rules.Folding.{lut, is_constant, without, fold, fold_one, constant}
 use Rattle.meaning.specs.Rules.Search.{lowest}
 use Rattle.meaning.specs.Rules.Tables.{cofactor, ignores}
-use Rattle.meaning.proofs.Laws.BoolLaws.{true_false}
-use Rattle.meaning.proofs.Laws.SearchLaws.{lowest_is, lowest_only}
+use Rattle.meaning.proofs.Laws.SearchLaws.{lowest_is, lowest_only, lowest_here, lowest_none}
 use Rattle.meaning.specs.Rules.Tables.{but_one}
 use Rattle.columns.specs.Columns.{cell, datum_column}
 use Rattle.folding.specs.declared.Folded.TheVariants.{Constant, Operand, Lut}
-use Rattle.folding.specs.declared.dropping.Next.{Next}
-use Rattle.folding.specs.declared.dropping.Next.TheVariants.{Drop, Stay}
-use Rattle.folding.specs.Folded.{Each, is_constant_row, Tells, folded_tree, Among, Left, folded_one, constant_at, ignored_at, next_of}
+use Rattle.form_rows.specs.First.{IsFirst}
+use Rattle.folding.specs.declared.dropping.Dropped.{Dropped}
+use Rattle.folding.specs.Folded.{Each, is_constant_row, Tells, folded_tree, Among, Left, folded_one, constant_at, ignored_at, drop, next_of}
 use Rattle.folding.specs.Moved.{but_one_before, but_one_after}
 
 -- two tests that agree have one lowest
@@ -50,9 +49,9 @@ module _ (tree : ℕ → Tree) where
 
 -- ---- rule 3
 -- the tree that is left to fold
-abbrev followed : (ℕ → Tree) → ℕ → List ℕ → ℕ → Next → Tree
-followed tree p xs m (Drop at q) = fold m q (map tree (but_one at xs))
-followed tree p xs m Stay = lut p (map tree xs)
+abbrev followed : (ℕ → Tree) → ℕ → List ℕ → ℕ → Option Dropped → Tree
+followed tree p xs m (Some d) = fold m d.program (map tree (but_one d.at xs))
+followed tree p xs m None = lut p (map tree xs)
 
 module _ (work : List ℕ) (tree : ℕ → Tree) (p : ℕ) (xs : List ℕ) (m : ℕ) (size : length xs ≡ suc (suc m))
     (tells : Each (Tells work tree) xs) where
@@ -86,8 +85,8 @@ module _ (work : List ℕ) (tree : ℕ → Tree) (p : ℕ) (xs : List ℕ) (m : 
           → cond (ltb first (suc (suc m))) (fold (suc m) (cofactor p (suc m) (suc m - first) (datum (nth_tree (map tree xs) first))) (without first (map tree xs)))
           (cond (ltb ignored (suc (suc m))) (fold (suc m) (cofactor p (suc m) (suc m - ignored) 0) (without ignored (map tree xs))) (lut p (map tree xs)))
           ≡ followed tree p xs (suc m)
-          (cond (ltb first (suc (suc m))) (Drop first (cofactor p (suc m) (suc m - first) (cell work datum_column (get_or xs first 0))))
-          (cond (ltb ignored (suc (suc m))) (Drop ignored (cofactor p (suc m) (suc m - ignored) 0)) Stay))
+          (cond (ltb first (suc (suc m))) (drop first (cofactor p (suc m) (suc m - first) (cell work datum_column (get_or xs first 0))))
+          (cond (ltb ignored (suc (suc m))) (drop ignored (cofactor p (suc m) (suc m - ignored) 0)) None))
       go (yes l) d =
           rw (lt-ltb first (suc (suc m)) l, bit_is l)
           (ap (fold (suc m) (cofactor p (suc m) (suc m - first) (cell work datum_column (get_or xs first 0)))) (sym (trees_without tree first xs)))
@@ -98,34 +97,34 @@ module _ (work : List ℕ) (tree : ℕ → Tree) (p : ℕ) (xs : List ℕ) (m : 
 
 -- what it says, by what the two searches find
 module _ (work : List ℕ) (p : ℕ) (xs : List ℕ) where
-  pub next_constant : (c : ℕ) → c ≡ lowest (constant_at work xs) (length xs) → c < length xs
-      → Drop c (cofactor p (length xs - 1) (length xs - 1 - c) (cell work datum_column (get_or xs c 0))) ≡ next_of work p xs
+  pub next_constant : (c : ℕ) → IsFirst (constant_at work xs) (length xs) (Some c)
+      → drop c (cofactor p (length xs - 1) (length xs - 1 - c) (cell work datum_column (get_or xs c 0))) ≡ next_of work p xs
   unfolding next_of
-  next_constant c is h = rw (← is, lt-ltb c (length xs) h)
+  next_constant c h =
+      let is = lowest_here (constant_at work xs) (length xs) c h.0 h.2 h.1 in
+      rw (is, lt-ltb c (length xs) h.0)
 
-  pub next_ignored : (c i : ℕ) → c ≡ lowest (constant_at work xs) (length xs) → length xs ≤ c
-      → i ≡ lowest (ignored_at p (length xs)) (length xs) → i < length xs
-      → Drop i (cofactor p (length xs - 1) (length xs - 1 - i) 0) ≡ next_of work p xs
+  pub next_ignored : (i : ℕ) → IsFirst (constant_at work xs) (length xs) None → IsFirst (ignored_at p (length xs)) (length xs) (Some i)
+      → drop i (cofactor p (length xs - 1) (length xs - 1 - i) 0) ≡ next_of work p xs
   unfolding next_of
-  next_ignored c i is h is' l = rw (← is, ← is', le-ltb c (length xs) h, lt-ltb i (length xs) l)
+  next_ignored i none h =
+      let is = lowest_none (constant_at work xs) (length xs) none in
+      let is' = lowest_here (ignored_at p (length xs)) (length xs) i h.0 h.2 h.1 in
+      rw (is, is', le-ltb (length xs) (length xs) (omega arith), lt-ltb i (length xs) h.0)
 
-  pub next_stay : (c i : ℕ) → c ≡ lowest (constant_at work xs) (length xs) → length xs ≤ c
-      → i ≡ lowest (ignored_at p (length xs)) (length xs) → length xs ≤ i → Stay ≡ next_of work p xs
+  pub next_stay : IsFirst (constant_at work xs) (length xs) None → IsFirst (ignored_at p (length xs)) (length xs) None → None ≡ next_of work p xs
   unfolding next_of
-  next_stay c i is h is' l = rw (← is, ← is', le-ltb c (length xs) h, le-ltb i (length xs) l)
+  next_stay none none' =
+      rw (lowest_none (constant_at work xs) (length xs) none, lowest_none (ignored_at p (length xs)) (length xs) none', le-ltb (length xs) (length xs) (omega arith))
 
 -- the operand that it drops is one of the list
-abbrev drops_at : Next → ℕ
-drops_at (Drop at q) = at
-drops_at Stay = 0
+abbrev IsInside : Option Dropped → ℕ → Type 0
+IsInside None k = Unit {0}
+IsInside (Some d) k = d.at < k
 
-abbrev drops : Next → Bool
-drops (Drop at q) = true
-drops Stay = false
-
-pub next_inside : (work : List ℕ) (p : ℕ) (xs : List ℕ) (at q : ℕ) → next_of work p xs ≡ Drop at q → at < length xs
+is_inside : (work : List ℕ) (p : ℕ) (xs : List ℕ) → IsInside (next_of work p xs) (length xs)
 unfolding next_of
-next_inside work p xs at q e = go (ltb c k) refl (ltb i k) refl e
+is_inside work p xs = go (ltb c k) refl (ltb i k) refl
   where
     k : ℕ
     k = length xs
@@ -137,11 +136,13 @@ next_inside work p xs at q e = go (ltb c k) refl (ltb i k) refl e
     i = lowest (ignored_at p k) k
 
     go : (a : Bool) → ltb c k ≡ a → (b : Bool) → ltb i k ≡ b
-        → cond a (Drop c (cofactor p (k - 1) (k - 1 - c) (cell work datum_column (get_or xs c 0)))) (cond b (Drop i (cofactor p (k - 1) (k - 1 - i) 0)) Stay) ≡ Drop at q
-        → at < k
-    go true h b l e = let same : c ≡ at = ap drops_at e in omega (arith, same, ltb-true c k h)
-    go false h true l e = let same : i ≡ at = ap drops_at e in omega (arith, same, ltb-true i k l)
-    go false h false l e = absurd (true_false (ap drops e) refl)
+        → IsInside (cond a (drop c (cofactor p (k - 1) (k - 1 - c) (cell work datum_column (get_or xs c 0)))) (cond b (drop i (cofactor p (k - 1) (k - 1 - i) 0)) None)) k
+    go true h b l = ltb-true c k h
+    go false h true l = ltb-true i k l
+    go false h false l = tt
+
+pub next_inside : (work : List ℕ) (p : ℕ) (xs : List ℕ) (d : Dropped) → next_of work p xs ≡ Some d → d.at < length xs
+next_inside work p xs d e = subst (λ (n : Option Dropped). IsInside n (length xs)) e (is_inside work p xs)
 
 -- ---- as folding goes: of the operands xs the first k of ys are left, with the program p
 pub record Folding (work xs : List ℕ) (p₀ : ℕ) (ys : List ℕ) (p k : ℕ) : Type 0 where
@@ -184,19 +185,22 @@ module _ {work xs : List ℕ} {p₀ : ℕ} {ys : List ℕ} {p k : ℕ} (f : Fold
       ∙ ap (λ (n : ℕ). fold n p (map tree (take k ys))) (sym two) ∙ f.folds tree tells
 
   -- operand `at` is taken from the list
-  pub folding_drop : 1 < k → (at q : ℕ) (zs : List ℕ) → next_of work p (take k ys) ≡ Drop at q → length zs ≡ length ys
-      → take (k - 1) zs ≡ but_one at (take k ys) → Folding work xs p₀ zs q (k - 1)
-  folding_drop h at q zs next size taken = record {
+  pub folding_drop : 1 < k → (d : Dropped) (zs : List ℕ) → next_of work p (take k ys) ≡ Some d → length zs ≡ length ys
+      → take (k - 1) zs ≡ but_one d.at (take k ys) → Folding work xs p₀ zs d.program (k - 1)
+  folding_drop h d zs next size taken = record {
     size = size ∙ f.size;
     most = omega (arith, f.most);
     none = λ e. absurd (omega arith);
     left = among;
     folds = λ tree tells.
-        rw taken (subst (λ (n : Next). followed tree p (take k ys) (k - 1) n ≡ fold (length xs) p₀ (map tree xs)) next (folding_next h tree tells));
+        rw taken (subst (λ (n : Option Dropped). followed tree p (take k ys) (k - 1) n ≡ fold (length xs) p₀ (map tree xs)) next (folding_next h tree tells));
   }
     where
+      at : ℕ
+      at = d.at
+
       there : at < length (take k ys)
-      there = next_inside work p (take k ys) at q next
+      there = next_inside work p (take k ys) d next
 
       among : (j : ℕ) → j < k - 1 → Among xs (get_or zs j 0)
       among j l = elim (dec_lt j at) [
@@ -211,10 +215,10 @@ module _ {work xs : List ℕ} {p₀ : ℕ} {ys : List ℕ} {p k : ℕ} (f : Fold
       ]
 
   -- ---- no rule applies
-  pub folding_stay : 1 < k → next_of work p (take k ys) ≡ Stay → (tree : ℕ → Tree) → Each (Tells work tree) xs
+  pub folding_stay : 1 < k → next_of work p (take k ys) ≡ None → (tree : ℕ → Tree) → Each (Tells work tree) xs
       → fold (length xs) p₀ (map tree xs) ≡ folded_tree tree (Lut p k) ys
   folding_stay h next tree tells =
-      sym (subst (λ (n : Next). followed tree p (take k ys) (k - 1) n ≡ fold (length xs) p₀ (map tree xs)) next (folding_next h tree tells))
+      sym (subst (λ (n : Option Dropped). followed tree p (take k ys) (k - 1) n ≡ fold (length xs) p₀ (map tree xs)) next (folding_next h tree tells))
 
   pub folding_none : k ≡ 0 → (tree : ℕ → Tree) → Each (Tells work tree) xs
       → fold (length xs) p₀ (map tree xs) ≡ folded_tree tree (Constant p) ys

@@ -2,72 +2,59 @@
 // program keeps the rows left in order". The operands are given by their homes.
 ghost use Rattle.std.specs.Prelude.{◌≡◌, ◌+◌, ◌-◌, ◌≤◌, ◌<◌, length, take};
 ghost use Rattle.meaning.specs.Rules.Limits.{most_operands};
-ghost use Rattle.meaning.specs.Rules.Search.{lowest};
 ghost use Rattle.meaning.specs.Rules.Tables as meant;
 ghost use Rattle.meaning.specs.Rules.Tables.{but_one};
+ghost use Rattle.form_rows.specs.First.{IsFirst};
 ghost use Rattle.folding.specs.Folded.{Each, Readable, constant_at, ignored_at, next_of};
 
 use form_rows::{CONSTANT, datum_in, kind_in};
 use table_rows::{cofactor, ignores};
 
-// the operand that rule 3 drops, and the program over those left; or that no operand is dropped
+// the operand that rule 3 drops, and the program over those left
 #[derive(Clone, Copy)]
-pub(crate) enum Next {
-    Drop { at: usize, program: u64 },
-    Stay,
+pub(crate) struct Dropped {
+    pub(crate) at: usize,
+    pub(crate) program: u64,
 }
 
-// Inner: what rule 3 says of two operands or more.
-pub(crate) fn next_rule(program: u64, operands: &[u64], work: &[u64]) -> Next
+// Inner: what rule 3 says of two operands or more; of some, that none is dropped.
+pub(crate) fn next_rule(program: u64, operands: &[u64], work: &[u64]) -> Option<Dropped>
     requires in_bounds { (1 < length operands.now) × (length operands.now ≤ most_operands) }
     requires each { Each (Readable work.now) operands.now }
     ensures { result ≡ next_of work.now program operands.now }
 {
     let count = operands.len();
-    let constant = first_constant(operands, work);
-    if constant < count {
-        let bit = datum_in(work, operands[constant] as usize);
-        return Next::Drop {
-            at: constant,
-            program: tied(program, count, constant, bit),
-        };
+    if let Some(at) = first_constant(operands, work) {
+        let bit = datum_in(work, operands[at] as usize);
+        return Some(Dropped {
+            at,
+            program: tied(program, count, at, bit),
+        });
     }
-    let ignored = first_ignored(program, count);
-    if ignored < count {
-        return Next::Drop {
-            at: ignored,
-            program: tied(program, count, ignored, 0),
-        };
-    }
-    Next::Stay
+    let at = first_ignored(program, count)?;
+    Some(Dropped {
+        at,
+        program: tied(program, count, at, 0),
+    })
 }
 
-// The first operand that is a constant; the number of operands where none is.
-fn first_constant(operands: &[u64], work: &[u64]) -> usize
+// The first operand that is a constant.
+fn first_constant(operands: &[u64], work: &[u64]) -> Option<usize>
     requires { Each (Readable work.now) operands.now }
-    ensures { result ≡ lowest (constant_at work.now operands.now) (length operands.now) }
+    ensures { IsFirst (constant_at work.now operands.now) (length operands.now) result }
 {
-    let count = operands.len();
-    for j in 0..count {
-        if kind_in(work, operands[j] as usize) == CONSTANT {
-            return j;
-        }
-    }
-    count
+    operands
+        .iter()
+        .position(|&operand| kind_in(work, operand as usize) == CONSTANT)
 }
 
-// The first operand that no row pair depends on; the number of operands where there is none.
-fn first_ignored(program: u64, count: usize) -> usize
+// The first operand that no row pair depends on.
+fn first_ignored(program: u64, count: usize) -> Option<usize>
     requires { (1 < count) × (count ≤ most_operands) }
-    ensures { result ≡ lowest (ignored_at program count) count }
+    ensures { IsFirst (ignored_at program count) count result }
 {
-    let last = count - 1;
-    for at in 0..count {
-        if ignores(program, last as u64, row_bit(count, at)) {
-            return at;
-        }
-    }
-    count
+    let last = count as u64 - 1;
+    (0..count).find(|&at| ignores(program, last, row_bit(count, at)))
 }
 
 // The program over the operands left, with operand `at` tied to a bit.
@@ -75,8 +62,7 @@ fn tied(program: u64, count: usize, at: usize, bit: u64) -> u64
     requires { (at < count) × ((count ≤ most_operands) × (bit < 2)) }
     ensures { result ≡ meant.cofactor program (count - 1) (count - 1 - at) bit }
 {
-    let last = count - 1;
-    cofactor(program, last as u64, row_bit(count, at), bit)
+    cofactor(program, count as u64 - 1, row_bit(count, at), bit)
 }
 
 // The first operand is the high row bit.
@@ -92,8 +78,5 @@ pub(crate) fn drop_at(operands: &mut [u64], count: usize, at: usize)
     requires { (at < count) × (count ≤ length operands.old) }
     ensures { take (count - 1) operands.new ≡ but_one at (take count operands.old) }
 {
-    let last = count - 1;
-    for j in at..last {
-        operands[j] = operands[j + 1];
-    }
+    operands.copy_within(at + 1..count, at);
 }

@@ -12,7 +12,7 @@ ghost use Rattle.meaning.specs.Rules.Trees.{Tree};
 ghost use Rattle.meaning.specs.Rules.Folding.{fold};
 ghost use Rattle.folding.specs.Folded.{Each, Readable, Tells, folded_tree, Left, folded_one};
 
-use dropping::{Next, drop_at, next_rule};
+use dropping::{Dropped, drop_at, next_rule};
 use form_rows::{CONSTANT, datum_in, kind_in};
 
 // What a Lut is when no rule applies: a constant, an operand, or a Lut over the first `count` of the operands' list.
@@ -34,8 +34,7 @@ pub fn fold_lut(program: u64, operands: &mut [u64], work: &[u64]) -> Folded
     let mut left = program;
     let mut count = operands.len();
     while count > 1 {
-        let next = next_rule(left, &operands[..count], work);
-        let Next::Drop { at, program } = next else {
+        let Some(Dropped { at, program }) = next_rule(left, &operands[..count], work) else {
             return Folded::Lut {
                 program: left,
                 count,
@@ -43,7 +42,7 @@ pub fn fold_lut(program: u64, operands: &mut [u64], work: &[u64]) -> Folded
         };
         drop_at(operands, count, at);
         left = program;
-        count = count - 1;
+        count -= 1;
     }
     if count == 0 {
         return Folded::Constant(left);
@@ -52,21 +51,18 @@ pub fn fold_lut(program: u64, operands: &mut [u64], work: &[u64]) -> Folded
 }
 
 // Rule 2, "k = 1: program 0 false, 3 true, 2 the operand; 1 over a constant, its negation; otherwise stay".
+#[tactic(auto, unfolding(crate::specs::Folded::folded_one))]
 fn fold_one(program: u64, operand: u64, work: &[u64]) -> Folded
     requires { Readable work.now operand }
     ensures { result ≡ folded_one work.now program operand }
 {
-    if program == 0 {
-        return Folded::Constant(0);
+    match program {
+        0 => Folded::Constant(0),
+        3 => Folded::Constant(1),
+        2 => Folded::Operand(operand),
+        _ if kind_in(work, operand as usize) == CONSTANT => {
+            Folded::Constant(1 - datum_in(work, operand as usize))
+        }
+        _ => Folded::Lut { program, count: 1 },
     }
-    if program == 3 {
-        return Folded::Constant(1);
-    }
-    if program == 2 {
-        return Folded::Operand(operand);
-    }
-    if kind_in(work, operand as usize) == CONSTANT {
-        return Folded::Constant(1 - datum_in(work, operand as usize));
-    }
-    Folded::Lut { program, count: 1 }
 }

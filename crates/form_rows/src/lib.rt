@@ -15,7 +15,8 @@ use columns::{COUNT, DATUM, HOME, KIND, OPERAND, get};
 use lists::children::children_of;
 use nodes::wide;
 
-// the kind words that a rule of folding or listing names
+// The kind words that a rule of folding or listing names. A row keeps the word and not the kind, for equal forms have one
+// word, and the four registers are one kind.
 pub const CONSTANT: u64 = 0;
 
 pub const PROGRAM: u64 = 1;

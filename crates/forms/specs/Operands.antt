@@ -1,23 +1,25 @@
 -- The Lut that a gate or a Lut is (document 01, "Canonical list": "Mux, And, Xor, Nor, Not become Luts of programs 202, 8,
 -- 6, 1, 1"), its operands by their homes, and its normal form from theirs.
 use Prim.Native.Nat.{ℕ, zero, suc, ◌+◌, ◌*◌, ◌≤◌, ◌<◌}
-use Rattle.std.specs.Prelude.{◌≡◌, Bool, not, ◌&&◌, get_or, take, drop, set, ltb, leb}
+use Rattle.std.specs.Prelude.{◌≡◌, Bool, not, get_or, take, drop, leb}
 use Rattle.std.proofs.Math.Path.{refl, ap, subst}
-use Rattle.std.proofs.Common.{sym, ap₂, ◌∙◌, arith, length-append, length-take-le, get_or-set_same, get_or-set_other, get_or-take, get_or-drop, ext_get_or}
+use Rattle.std.proofs.Common.{sym, ap₂, ◌∙◌, arith, length-append, get_or-drop}
 use mathlib.Core.List.{List, [], ◌∷◌, ◌++◌, map}
 use Rattle.std.proofs.Math.Bool.{true, false, cond}
-use Rattle.std.proofs.Math.Decide.{ℕ_discrete}
 use Rattle.std.proofs.Math.ListN.{length, length-drop, get_or-append}
 use Rattle.std.proofs.lemmas.List.{length-map, take-append-le}
 use Rattle.std.proofs.Math.Dec.{eqb}
-use borrow.Author.Tests.{eqb-true, eqb-false, ltb-true, leb-true, leb-false}
+use borrow.Author.Tests.{eqb-true, eqb-false, leb-false}
 use Rattle.meaning.specs.Rules.Limits.{work_per_node, most_operands}
+use Rattle.meaning.specs.declared.kinds.Kind.{Kind}
+use Rattle.meaning.specs.declared.kinds.Kind.TheVariants.{Const, Program, DC, Var, Nor, Mux, And, Xor, Not, Lut as LutKind, Bus, Reg, Arg, Cycle, Unknown}
 use Rattle.meaning.specs.Rules.Kinds.{kind_of, may_have, const_word, variable_word, lut_word}
-use Rattle.meaning.specs.Rules.Trees.{Tree, Forest, node, none, ◌◂◌, trees, forest, kind_word, datum, node_count, kind_at, datum_at, children_at, tree_of}
+use Rattle.meaning.specs.Rules.Trees.{Tree, Forest, node, none, ◌◂◌, trees, forest, kind_word as word_in, datum, node_count, kind_at, datum_at, children_at, tree_of}
 use Rattle.meaning.specs.Rules.Reach.{mark_of}
 use Rattle.meaning.specs.Rules.Verification.{is_program, lut_wrong}
 use Rattle.meaning.specs.Rules.Folding.{constant, lut, fold, folded, folded_lut, nf, nf_all, nf_step}
-use Rattle.meaning.proofs.Laws.BoolLaws.{and_left, and_right, or_right_false}
+use Rattle.meaning.proofs.Laws.BoolLaws.{or_right_false, true_false}
+use Rattle.meaning.proofs.Laws.KindLaws.{word_of, kind_word}
 use Rattle.meaning.specs.Claims.Column.{Sound}
 use Rattle.lists.specs.Cases.{range}
 use Rattle.columns.specs.Columns.{cell, home_column, kind_column, datum_column}
@@ -30,18 +32,58 @@ use Rattle.folding.specs.Folded.{Each, Readable, Tells, folded_tree, Among, Left
 use Rattle.forms.specs.Turns.{Turn}
 
 -- the kinds that are folded: the gates, and Lut
-abbrev pub folds : ℕ → Bool
-folds k = ltb variable_word k && leb k lut_word
+abbrev pub folds : Kind → Bool
+folds Nor = true
+folds Mux = true
+folds And = true
+folds Xor = true
+folds Not = true
+folds LutKind = true
+folds _ = false
 
-abbrev pub gate_program : ℕ → ℕ
-gate_program k = cond (eqb k 5) 202 (cond (eqb k 6) 8 (cond (eqb k 7) 6 1))
+abbrev pub gate_program : Kind → ℕ
+gate_program Mux = 202
+gate_program And = 8
+gate_program Xor = 6
+gate_program _ = 1
+
+-- their words are 4 to 9
+folds_words : (q : Kind) → folds q ≡ true → (variable_word < word_of q) × (word_of q ≤ lut_word)
+folds_words Nor h = (omega arith, omega arith)
+folds_words Mux h = (omega arith, omega arith)
+folds_words And h = (omega arith, omega arith)
+folds_words Xor h = (omega arith, omega arith)
+folds_words Not h = (omega arith, omega arith)
+folds_words LutKind h = (omega arith, omega arith)
+folds_words Const h = absurd (true_false h refl)
+folds_words Program h = absurd (true_false h refl)
+folds_words DC h = absurd (true_false h refl)
+folds_words Var h = absurd (true_false h refl)
+folds_words Bus h = absurd (true_false h refl)
+folds_words Reg h = absurd (true_false h refl)
+folds_words Arg h = absurd (true_false h refl)
+folds_words Cycle h = absurd (true_false h refl)
+folds_words Unknown h = absurd (true_false h refl)
+
+folds_word : (k : ℕ) → folds (kind_of k) ≡ true → (variable_word < k) × (k ≤ lut_word)
+folds_word k h =
+    let w = folds_words (kind_of k) h in
+    let is : k ≡ word_of (kind_of k) = kind_word k (omega (arith, w.1)) in
+    (omega (arith, is, w.0), omega (arith, is, w.1))
+
+-- Lut's word is its own
+pub lut_kind : (k : ℕ) → kind_of k ≡ LutKind → k ≡ lut_word
+lut_kind k e = let is = ap word_of e in kind_word k (omega arith) ∙ is
+
+pub no_lut_kind : (k : ℕ) → (kind_of k ≡ LutKind → ⊥) → k ≡ lut_word → ⊥
+no_lut_kind k h e = h (rw e)
 
 -- a Lut's operands are its children behind its Program; a gate's are all its children
 unfoldable pub operands_at : List ℕ → List ℕ → ℕ → List ℕ
 operands_at ns ps i = drop (cond (eqb (kind_at ns i) lut_word) 1 0) (children_at ns ps i)
 
 unfoldable pub program_at : List ℕ → List ℕ → ℕ → ℕ
-program_at ns ps i = cond (eqb (kind_at ns i) lut_word) (datum_at ns (get_or (children_at ns ps i) 0 0)) (gate_program (kind_at ns i))
+program_at ns ps i = cond (eqb (kind_at ns i) lut_word) (datum_at ns (get_or (children_at ns ps i) 0 0)) (gate_program (kind_of (kind_at ns i)))
 
 abbrev pub homes_of : List ℕ → List ℕ → List ℕ
 homes_of work cs = map (cell work home_column) cs
@@ -50,30 +92,15 @@ homes_of work cs = map (cell work home_column) cs
 abbrev pub Read : List ℕ → List ℕ → List ℕ → ℕ → Type 0
 Read work cs ys n = (m : ℕ) → m < n → get_or ys m 0 ≡ cell work home_column (get_or cs m 0)
 
-pub read_next : (work cs ys : List ℕ) (n v : ℕ) → Read work cs ys n → n < length ys → v ≡ cell work home_column (get_or cs n 0)
-    → Read work cs (set ys n v) (n + 1)
-read_next work cs ys n v r inside is m h = elim (ℕ_discrete m n) [
-  | yes e ↦ rw e (get_or-set_same ys n v 0 inside ∙ is)
-  | no e ↦ get_or-set_other ys n m v 0 e ∙ r m (omega arith)
-]
-
 pub map_at : (f : ℕ → ℕ) (cs : List ℕ) (j : ℕ) → j < length cs → get_or (map f cs) j 0 ≡ f (get_or cs j 0)
 map_at f [] j h = absurd (omega arith)
 map_at f (c ∷ cs) zero h = refl
 map_at f (c ∷ cs) (suc j) h = map_at f cs j (omega arith)
 
-pub read_all : (work cs ys : List ℕ) → Read work cs ys (length cs) → length cs ≤ length ys → take (length cs) ys ≡ homes_of work cs
-read_all work cs ys r room =
-    let size : length (take (length cs) ys) ≡ length cs = length-take-le (length cs) ys room in
-    ext_get_or 0 (take (length cs) ys) (homes_of work cs) (size ∙ sym (length-map cs (cell work home_column)))
-    (λ j h.
-    let small : j < length cs = omega (arith, size) in
-    get_or-take (length cs) ys j 0 small ∙ r j small ∙ sym (map_at (cell work home_column) cs j small))
-
 -- ---- the normal form of a node from its children's
-gate_folds : (k : ℕ) → variable_word < k → k < lut_word → (d : ℕ) (cs : Forest) → nf_step (kind_of k) k d cs ≡ folded (gate_program k) (trees cs)
+gate_folds : (k : ℕ) → variable_word < k → k < lut_word → (d : ℕ) (cs : Forest) → nf_step (kind_of k) k d cs ≡ folded (gate_program (kind_of k)) (trees cs)
 gate_folds k l h d cs =
-    range (λ k. nf_step (kind_of k) k d cs ≡ folded (gate_program k) (trees cs)) 4 5 (refl, (refl, (refl, (refl, (refl, tt))))) k l h
+    range (λ k. nf_step (kind_of k) k d cs ≡ folded (gate_program (kind_of k)) (trees cs)) 4 5 (refl, (refl, (refl, (refl, (refl, tt))))) k l h
 
 forms_of : (f : ℕ → Tree) (cs : List ℕ) → trees (nf_all (forest f cs)) ≡ map (λ c. nf (f c)) cs
 forms_of f [] = refl
@@ -109,12 +136,12 @@ pub lut_logic : (ns ps : List ℕ) (i : ℕ) → i < node_count ns → 0 < mark_
 lut_logic ns ps i inside marked e = record { inside = inside; marked = marked; no_program = λ p. absurd (omega arith) }
 
 module _ (ns ps : List ℕ) (s : Sound ns ps) (i : ℕ) (inside : i < node_count ns) (marked : 0 < mark_of ns ps i)
-    (kind : folds (kind_at ns i) ≡ true) where
+    (kind : folds (kind_of (kind_at ns i)) ≡ true) where
   parent : variable_word < kind_at ns i
-  parent = ltb-true variable_word (kind_at ns i) (and_left (ltb variable_word (kind_at ns i)) (leb (kind_at ns i) lut_word) kind)
+  parent = (folds_word (kind_at ns i) kind).0
 
   up_to_lut : kind_at ns i ≤ lut_word
-  up_to_lut = leb-true (kind_at ns i) lut_word (and_right (ltb variable_word (kind_at ns i)) (leb (kind_at ns i) lut_word) kind)
+  up_to_lut = (folds_word (kind_at ns i) kind).1
 
   gate : eqb (kind_at ns i) lut_word ≡ false → kind_at ns i < lut_word
   gate e = let other : (kind_at ns i ≡ lut_word → ⊥) = eqb-false (kind_at ns i) lut_word e in omega (arith, up_to_lut, other)
@@ -142,7 +169,7 @@ module _ (ns ps : List ℕ) (s : Sound ns ps) (i : ℕ) (inside : i < node_count
   bare_program = go (eqb (kind_at ns i) lut_word) refl
     where
       go : (b : Bool) → eqb (kind_at ns i) lut_word ≡ b → length (drop (cond b 1 0) (children_at ns ps i)) ≡ 0
-          → cond b (datum_at ns (get_or (children_at ns ps i) 0 0)) (gate_program (kind_at ns i)) < 2
+          → cond b (datum_at ns (get_or (children_at ns ps i) 0 0)) (gate_program (kind_of (kind_at ns i))) < 2
       go true e bare =
           let k : kind_at ns i ≡ lut_word = eqb-true (kind_at ns i) lut_word e in
           let some = (lut_children ns ps s i (logic e) k).some in
@@ -163,7 +190,7 @@ module _ (ns ps : List ℕ) (s : Sound ns ps) (i : ℕ) (inside : i < node_count
 
       go : (b : Bool) → eqb (kind_at ns i) lut_word ≡ b
           → nf_step (kind_of (kind_at ns i)) (kind_at ns i) (datum_at ns i) (nf_all (child_trees ns ps i))
-          ≡ folded (cond b (datum_at ns (get_or (children_at ns ps i) 0 0)) (gate_program (kind_at ns i))) (map (λ c. nf (tree_of ns ps c)) (drop (cond b 1 0) (children_at ns ps i)))
+          ≡ folded (cond b (datum_at ns (get_or (children_at ns ps i) 0 0)) (gate_program (kind_of (kind_at ns i)))) (map (λ c. nf (tree_of ns ps c)) (drop (cond b 1 0) (children_at ns ps i)))
       go true e = rw (eqb-true (kind_at ns i) lut_word e, forms) (lut_case (children_at ns ps i) l.some l.inside l.first)
         where
           l : LutChildren ns ps i
@@ -177,17 +204,17 @@ module _ (ns ps : List ℕ) (s : Sound ns ps) (i : ℕ) (inside : i < node_count
               (ap (λ (t : Tree). datum (nf t)) (tree_is ns ps s c there) ∙ program_form (datum_at ns c) (kind_at ns c) (child_trees ns ps c) k)
       go false e =
           gate_folds (kind_at ns i) parent (gate e) (datum_at ns i) (nf_all (child_trees ns ps i))
-          ∙ ap (folded (gate_program (kind_at ns i))) forms
+          ∙ ap (folded (gate_program (kind_of (kind_at ns i)))) forms
 
 -- ---- the homes of a node's children, which come before it
 abbrev pub Kid : List ℕ → List ℕ → List ℕ → ℕ → ℕ → Type 0
 Kid ns ps work i x = (x < i) × Home ns ps work x
 
-made_kind : (k d : ℕ) (cs : Forest) → kind_word (made k d cs) ≡ k
+made_kind : (k d : ℕ) (cs : Forest) → word_in (made k d cs) ≡ k
 unfolding made
 made_kind k d cs = go (eqb k lut_word) refl
   where
-    go : (b : Bool) → eqb k lut_word ≡ b → kind_word (cond b (node lut_word 0 (node 1 d none ◂ cs)) (node k d cs)) ≡ k
+    go : (b : Bool) → eqb k lut_word ≡ b → word_in (cond b (node lut_word 0 (node 1 d none ◂ cs)) (node k d cs)) ≡ k
     go true e = sym (eqb-true k lut_word e)
     go false e = refl
 
@@ -218,7 +245,7 @@ module _ {ns ps work : List ℕ} {i : ℕ} (t : Turn ns ps work i) (marked : 0 <
   kid_tells : (x : ℕ) → Kid ns ps work i x → Tells work (nf_at ns ps) x
   kid_tells x k =
       let form = (t.formed.forms x k.0 k.1).tree in
-      let kind : kind_word (nf_at ns ps x) ≡ cell work kind_column x = ap kind_word form ∙ made_kind (cell work kind_column x) (cell work datum_column x) _ in
+      let kind : word_in (nf_at ns ps x) ≡ cell work kind_column x = ap word_in form ∙ made_kind (cell work kind_column x) (cell work datum_column x) _ in
       record {
         kind = ap (λ (w : ℕ). eqb w const_word) kind;
         bit = λ e. ap datum form ∙ made_constant (cell work kind_column x) (cell work datum_column x) _ (eqb-true (cell work kind_column x) const_word e);
@@ -245,7 +272,7 @@ module _ {ns ps work : List ℕ} {i : ℕ} (t : Turn ns ps work i) (marked : 0 <
       each_operand (λ c. work_per_node * c + work_per_node ≤ length work)
       (λ j h. omega (arith, child_below ns ps t.formed.sound i t.inside j h, t.inside, t.formed.room))
 
-  nf_homes : folds (kind_at ns i) ≡ true → nf_at ns ps i ≡ folded (program_at ns ps i) (map (nf_at ns ps) (homes_of work (operands_at ns ps i)))
+  nf_homes : folds (kind_of (kind_at ns i)) ≡ true → nf_at ns ps i ≡ folded (program_at ns ps i) (map (nf_at ns ps) (homes_of work (operands_at ns ps i)))
   nf_homes kind =
       nf_folds ns ps t.formed.sound i t.inside marked kind
       ∙ ap (folded (program_at ns ps i)) (sym (same_forms (nf_at ns ps) (nf_at ns ps) (cell work home_column) (operands_at ns ps i) (each_operand (λ c. nf_at ns ps c ≡ nf_at ns ps (cell work home_column c)) (λ j h. (child_home j h).same))))
@@ -257,7 +284,7 @@ Outcome ns ps work i (Operand h) ys = Kid ns ps work i h × (nf_at ns ps i ≡ n
 Outcome ns ps work i (Lut p k) ys =
     (k ≤ most_operands) × (k ≤ length ys) × ((j : ℕ) → j < k → Kid ns ps work i (get_or ys j 0)) × (nf_at ns ps i ≡ lut p (map (nf_at ns ps) (take k ys)))
 
-module _ {ns ps work : List ℕ} {i : ℕ} (t : Turn ns ps work i) (marked : 0 < mark_of ns ps i) (kind : folds (kind_at ns i) ≡ true)
+module _ {ns ps work : List ℕ} {i : ℕ} (t : Turn ns ps work i) (marked : 0 < mark_of ns ps i) (kind : folds (kind_of (kind_at ns i)) ≡ true)
     (xs : List ℕ) (are : xs ≡ homes_of work (operands_at ns ps i)) where
   pub homes_few : length xs ≤ most_operands
   homes_few = rw are (rw (homes_length t marked) (operands_few ns ps t.formed.sound i t.inside marked kind))

@@ -1,9 +1,9 @@
 -- What is stored in a node's row, and that it then holds the node's normal form.
-use Rattle.std.specs.Prelude.{ℕ, suc, ◌+◌, ◌*◌, ◌≤◌, ◌<◌, ◌≡◌, refl, ◌≢◌, true, false, cond, set, eqb}
+use Rattle.std.specs.Prelude.{ℕ, suc, ◌+◌, ◌≤◌, ◌<◌, ◌≡◌, refl, ◌≢◌, true, false, cond, eqb}
 use Rattle.std.proofs.Math.Path.{sym, ap, subst}
-use Rattle.std.proofs.Common.{ap₂, ◌∙◌, arith, zero-add, length-set, get_or-set_same, get_or-set_other}
+use Rattle.std.proofs.Common.{ap₂, ◌∙◌, arith, zero-add}
 use mathlib.Core.List.{List, [], ◌∷◌, map}
-use Rattle.std.proofs.Math.Decide.{dec_lt, ℕ_discrete}
+use Rattle.std.proofs.Math.Decide.{dec_lt}
 use Rattle.std.proofs.Math.ListN.{length, get_or, length-map}
 use borrow.Author.Tests.{eqb-true, ne_eqb, le-ltb, leb-true}
 use Rattle.meaning.specs.Rules.Limits.{work_per_node, most_operands, widest_bus}
@@ -13,12 +13,12 @@ use Rattle.meaning.specs.Rules.Reach.{mark_of}
 use Rattle.meaning.specs.Rules.Folding.{constant, lut, nf, nf_all, nf_step}
 use Rattle.meaning.proofs.Laws.BoolLaws.{true_false}
 use Rattle.lists.specs.Cases.{range}
-use Rattle.columns.specs.Columns.{place, cell, home_column, kind_column, datum_column, count_column, operand_column, number_column}
+use Rattle.columns.specs.Columns.{cell, home_column, kind_column, datum_column, count_column, operand_column, number_column}
 use Rattle.accepted.specs.Nodes.{child_trees, tree_is, arity, constant_bit, child_below}
 use Rattle.form_rows.specs.From.{from, from_list}
-use Rattle.form_rows.specs.Forms.{nf_at, made, kid_at, kids_in, Home}
+use Rattle.form_rows.specs.Forms.{nf_at, made, kid_at, kids_in}
 use Rattle.folding.specs.Folded.{Each}
-use Rattle.forms.specs.Turns.{Turn, Done, own, other, Beside, beside_set, beside_then}
+use Rattle.forms.specs.Turns.{Turn, Done, own, Beside, beside_then}
 use Rattle.forms.specs.Operands.{folds, Kid, homes_of, map_at, child_home, child_kid}
 
 -- ---- a row: home, kind, datum and count are stored, and nothing but the form in row i is touched
@@ -29,61 +29,11 @@ pub record RowAt (before after : List ℕ) (i h k d n : ℕ) : Type 0 where
   pub datum : cell after datum_column i ≡ d
   pub count : cell after count_column i ≡ n
 
-pub row_stored : (work : List ℕ) (i home kind datum count : ℕ) → work_per_node * i + work_per_node ≤ length work
-    → RowAt work (set (set (set (set work (place home_column i) home) (place kind_column i) kind) (place datum_column i) datum) (place count_column i) count) i home kind datum count
-row_stored work i home kind datum count room = record {
-  beside = beside_then (beside_then (beside_then (beside_set work i home_column home (omega arith) (omega arith)) (beside_set a i kind_column kind (omega arith) (omega arith)))
-      (beside_set b i datum_column datum (omega arith) (omega arith))) (beside_set c i count_column count (omega arith) (omega arith));
-  home = get_or-set_other c (place count_column i) (place home_column i) count 0 (λ e. absurd (omega arith))
-      ∙ get_or-set_other b (place datum_column i) (place home_column i) datum 0 (λ e. absurd (omega arith))
-      ∙ get_or-set_other a (place kind_column i) (place home_column i) kind 0 (λ e. absurd (omega arith))
-      ∙ get_or-set_same work (place home_column i) home 0 (omega arith);
-  kind = get_or-set_other c (place count_column i) (place kind_column i) count 0 (λ e. absurd (omega arith))
-      ∙ get_or-set_other b (place datum_column i) (place kind_column i) datum 0 (λ e. absurd (omega arith))
-      ∙ get_or-set_same a (place kind_column i) kind 0 (omega (arith, size_a));
-  datum = get_or-set_other c (place count_column i) (place datum_column i) count 0 (λ e. absurd (omega arith))
-      ∙ get_or-set_same b (place datum_column i) datum 0 (omega (arith, size_a, size_b));
-  count = get_or-set_same c (place count_column i) count 0 (omega (arith, size_a, size_b, size_c));
-}
-  where
-    a : List ℕ
-    a = set work (place home_column i) home
-
-    b : List ℕ
-    b = set a (place kind_column i) kind
-
-    c : List ℕ
-    c = set b (place datum_column i) datum
-
-    size_a : length a ≡ length work
-    size_a = length-set work (place home_column i) home
-
-    size_b : length b ≡ length a
-    size_b = length-set a (place kind_column i) kind
-
-    size_c : length c ≡ length b
-    size_c = length-set b (place datum_column i) datum
-
 -- ---- operands: the first n of xs stand in row i, and nothing but their columns is touched
 pub record Placed (before after : List ℕ) (i : ℕ) (xs : List ℕ) (n : ℕ) : Type 0 where
   pub size : length after ≡ length before
   pub same : (q j : ℕ) → q < work_per_node → (j ≡ i → operand_column ≤ q → q < number_column → ⊥) → cell after q j ≡ cell before q j
   pub stored : (j : ℕ) → j < n → cell after (operand_column + j) i ≡ get_or xs j 0
-
-pub placed_next : {before after : List ℕ} {i : ℕ} {xs : List ℕ} {n : ℕ} → Placed before after i xs n → n < most_operands
-    → work_per_node * i + work_per_node ≤ length before → Placed before (set after (place (operand_column + n) i) (get_or xs n 0)) i xs (n + 1)
-placed_next {before} {after} {i} {xs} {n} p few room = record {
-  size = length-set after (place (operand_column + n) i) (get_or xs n 0) ∙ p.size;
-  same = λ q j h apart.
-      get_or-set_other after (place (operand_column + n) i) (place q j) (get_or xs n 0) 0 (λ e. absurd (apart (omega arith) (omega arith) (omega arith)))
-      ∙ p.same q j h apart;
-  stored = λ j h. elim (ℕ_discrete j n) [
-    | yes e ↦ rw e (get_or-set_same after (place (operand_column + n) i) (get_or xs n 0) 0 (omega (arith, p.size)))
-    | no e ↦
-        get_or-set_other after (place (operand_column + n) i) (place (operand_column + j) i) (get_or xs n 0) 0 (λ k. e (omega arith))
-        ∙ p.stored j (omega arith)
-  ];
-}
 
 -- a Lut's row
 pub record LutRow (before after : List ℕ) (i program : ℕ) (xs : List ℕ) : Type 0 where
@@ -146,15 +96,6 @@ module _ {ns ps before after : List ℕ} {i : ℕ} (t : Turn ns ps before i) (ma
   constant_done b r small e =
       own_done const_word b [] r (omega arith) (λ z. small) (omega arith) (λ z. refl) (λ z. absurd (omega arith)) (λ z. omega arith) e (λ j h. absurd (omega arith))
 
-  pub other_done : (h : ℕ) → Beside before after i → cell after home_column i ≡ h → Kid ns ps before i h → nf_at ns ps i ≡ nf_at ns ps h → Done ns ps after i
-  other_done h b is k e =
-      let home = kid_after h b k in
-      other (omega (arith, is, k.0)) (record {
-        below = omega (arith, is, k.0);
-        home = subst (λ (x : ℕ). Home ns ps after x) (sym is) home.1;
-        same = e ∙ ap (nf_at ns ps) (sym is);
-      })
-
   pub lut_done : (p : ℕ) (xs : List ℕ) → LutRow before after i p xs → length xs ≤ most_operands
       → ((j : ℕ) → j < length xs → Kid ns ps before i (get_or xs j 0)) → nf_at ns ps i ≡ lut p (map (nf_at ns ps) xs) → Done ns ps after i
   unfolding made kid_at
@@ -164,9 +105,9 @@ module _ {ns ps before after : List ℕ} {i : ℕ} (t : Turn ns ps before i) (ma
       (λ j h. (rw r.row.kind (r.stored j h), kids j h))
 
 -- ---- every other kind keeps its kind, its datum and all its children
-kept_step : (k : ℕ) → k ≤ cycle_word → folds k ≡ false → (d : ℕ) (cs : Forest) → nf_step (kind_of k) k d cs ≡ node k d cs
+kept_step : (k : ℕ) → k ≤ cycle_word → folds (kind_of k) ≡ false → (d : ℕ) (cs : Forest) → nf_step (kind_of k) k d cs ≡ node k d cs
 kept_step k known h d cs =
-    range (λ k. folds k ≡ false → nf_step (kind_of k) k d cs ≡ node k d cs) 0 17
+    range (λ k. folds (kind_of k) ≡ false → nf_step (kind_of k) k d cs ≡ node k d cs) 0 17
     (stay, (stay, (stay, (stay, (no_way, (no_way, (no_way, (no_way, (no_way, (no_way, (stay, (stay, (stay, (stay, (stay, (stay, (stay, tt)))))))))))))))))
     k (omega arith) (omega arith) h
   where
@@ -176,9 +117,9 @@ kept_step k known h d cs =
     no_way : {t u : Tree} → true ≡ false → t ≡ u
     no_way e = absurd (true_false refl e)
 
-kept_few : (k n : ℕ) → variable_word < k → k ≤ cycle_word → folds k ≡ false → may_have (kind_of k) n ≡ true → n ≤ widest_bus
+kept_few : (k n : ℕ) → variable_word < k → k ≤ cycle_word → folds (kind_of k) ≡ false → may_have (kind_of k) n ≡ true → n ≤ widest_bus
 kept_few k n l known h =
-    range (λ k. folds k ≡ false → may_have (kind_of k) n ≡ true → n ≤ widest_bus) 4 13
+    range (λ k. folds (kind_of k) ≡ false → may_have (kind_of k) n ≡ true → n ≤ widest_bus) 4 13
     (no_way, (no_way, (no_way, (no_way, (no_way, (no_way, ((λ e m. leb-true n widest_bus m), (one 4 (omega arith), (one 4 (omega arith), (one 4 (omega arith), (one 4 (omega arith), (one 1 (omega arith), (one 1 (omega arith), tt)))))))))))))
     k l (omega arith) h
   where
@@ -193,7 +134,7 @@ forms_homes f h [] e = refl
 forms_homes f h (c ∷ cs) e =
     ap₂ (λ (t : Tree) (ts : Forest). t ◂ ts) (e 0 (omega arith)) (forms_homes f h cs (λ j l. e (suc j) (omega arith)))
 
-module _ {ns ps before : List ℕ} {i : ℕ} (t : Turn ns ps before i) (marked : 0 < mark_of ns ps i) (kept : folds (kind_at ns i) ≡ false) where
+module _ {ns ps before : List ℕ} {i : ℕ} (t : Turn ns ps before i) (marked : 0 < mark_of ns ps i) (kept : folds (kind_of (kind_at ns i)) ≡ false) where
   leaf_none : kind_at ns i ≤ variable_word → length (children_at ns ps i) ≡ 0
   unfolding children_at
   leaf_none h = rw (le-ltb variable_word (kind_at ns i) h)

@@ -1,13 +1,12 @@
 -- Normal forms are written node by node: at node i's turn those below it stand, its own row is filled, and everything else
 -- stays as it is.
-use Rattle.std.specs.Prelude.{ℕ, ◌+◌, ◌≤◌, ◌<◌, ◌≡◌, refl, List, length, set}
-use Rattle.std.proofs.Common.{sym, ap, subst, ◌∙◌, arith, zero-add, length-set, get_or-set_same, get_or-set_other}
+use Rattle.std.specs.Prelude.{ℕ, ◌+◌, ◌≤◌, ◌<◌, ◌≡◌, List, length, set}
+use Rattle.std.proofs.Common.{sym, ap, subst, ◌∙◌, arith, length-set, get_or-set_same, get_or-set_other}
 use Rattle.std.proofs.Math.Decide.{ℕ_discrete}
 use Rattle.meaning.specs.Rules.Limits.{work_per_node}
 use Rattle.meaning.specs.Rules.Trees.{node_count}
 use Rattle.meaning.specs.Rules.Reach.{mark_of}
 use Rattle.columns.specs.Columns.{place, cell, mark_column, home_column, number_column}
-use Rattle.rows.specs.Rows.{Prepared}
 use Rattle.form_rows.specs.Kept.{formed_kept}
 use Rattle.form_rows.specs.Forms.{nf_at, Home, FormAt, HomeOf, Formed}
 
@@ -15,9 +14,6 @@ use Rattle.form_rows.specs.Forms.{nf_at, Home, FormAt, HomeOf, Formed}
 pub record Beside (before after : List ℕ) (i : ℕ) : Type 0 where
   pub size : length after ≡ length before
   pub same : (q j : ℕ) → q < work_per_node → (j ≡ i → home_column ≤ q → q < number_column → ⊥) → cell after q j ≡ cell before q j
-
-pub beside_own : (work : List ℕ) (i : ℕ) → Beside work work i
-beside_own work i = record { size = refl; same = λ q j hq apart. refl }
 
 pub beside_set : (work : List ℕ) (i p v : ℕ) → home_column ≤ p → p < number_column → Beside work (set work (place p i) v) i
 beside_set work i p v l h = record {
@@ -74,19 +70,6 @@ pub record Passed (ns ps work : List ℕ) (i : ℕ) : Type 0 where
   pub formed : Formed ns ps work i
   pub marks : (j : ℕ) → j < node_count ns → cell work mark_column j ≡ mark_of ns ps j
   pub numbers : (j : ℕ) → j < i → cell work number_column j ≡ 0
-
-pub passed_none : {ns ps work : List ℕ} → Prepared ns ps 0 work → Passed ns ps work 0
-passed_none {ns} {ps} {work} p = record {
-  formed = record {
-    sound = p.sound;
-    room = rw (zero-add (node_count ns)) at p.room;
-    within = omega arith;
-    homes = λ i l. absurd (omega arith);
-    forms = λ h l. absurd (omega arith);
-  };
-  marks = λ j l. rw (zero-add j) at (p.marks j l);
-  numbers = λ j l. absurd (omega arith);
-}
 
 module _ {ns ps work : List ℕ} {i : ℕ} (p : Passed ns ps work i) (inside : i < node_count ns) where
   abbrev numbered : List ℕ

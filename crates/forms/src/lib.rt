@@ -12,6 +12,7 @@ mod storing;
 
 ghost use Rattle.std.specs.Prelude.{◌≡◌, true, false, ℕ, ◌<◌};
 ghost use Rattle.meaning.specs.Rules.Trees.{node_count, kind_at};
+ghost use Rattle.meaning.specs.Rules.Kinds.{kind_of};
 ghost use Rattle.meaning.specs.Rules.Reach.{mark_of};
 ghost use Rattle.columns.specs.Columns.{cell, number_column};
 ghost use Rattle.rows.specs.Rows.{Prepared};
@@ -22,7 +23,7 @@ ghost use Rattle.forms.specs.Operands.{folds};
 use columns::{MARK, NUMBER, get, put};
 use lists::children::children_of;
 use meaning::limits::MOST_OPERANDS;
-use nodes::{datum_of, kind_of, node_count};
+use nodes::{datum_of, kind_of, kind_word, node_count};
 use reading::{folded_at, is_folded};
 use storing::{put_row, store_folded};
 
@@ -32,8 +33,7 @@ pub fn write_forms(nodes: &[u32], pool: &[u32], work: &mut [u64])
     ensures formed { Formed nodes.now pool.now work.new (node_count nodes.now) }
     ensures by_index { (i : ℕ) → i < node_count nodes.now → cell work.new number_column i ≡ 0 }
 {
-    let n = node_count(nodes);
-    for i in 0..n {
+    for i in 0..node_count(nodes) {
         put(work, NUMBER, i, 0);
         write_form(nodes, pool, i, work);
     }
@@ -50,16 +50,16 @@ fn write_form(nodes: &[u32], pool: &[u32], i: usize, work: &mut [u64])
     }
     if is_folded(kind_of(nodes, i)) {
         write_folded(nodes, pool, i, work);
-        return;
+    } else {
+        write_kept(nodes, pool, i, work);
     }
-    write_kept(nodes, pool, i, work);
 }
 
 // A gate or a Lut: its Lut is folded over its operands' homes.
 fn write_folded(nodes: &[u32], pool: &[u32], i: usize, work: &mut [u64])
     requires turn { Turn nodes.now pool.now work.old i }
     requires i_nonzero { 0 < mark_of nodes.now pool.now i }
-    requires i_value { folds (kind_at nodes.now i) ≡ true }
+    requires i_value { folds (kind_of (kind_at nodes.now i)) ≡ true }
     ensures beside { Beside work.old work.new i }
     ensures done { Done nodes.now pool.now work.new i }
 {
@@ -72,11 +72,11 @@ fn write_folded(nodes: &[u32], pool: &[u32], i: usize, work: &mut [u64])
 fn write_kept(nodes: &[u32], pool: &[u32], i: usize, work: &mut [u64])
     requires turn { Turn nodes.now pool.now work.old i }
     requires i_nonzero { 0 < mark_of nodes.now pool.now i }
-    requires i_value { folds (kind_at nodes.now i) ≡ false }
+    requires i_value { folds (kind_of (kind_at nodes.now i)) ≡ false }
     ensures beside { Beside work.old work.new i }
     ensures done { Done nodes.now pool.now work.new i }
 {
-    let kind = kind_of(nodes, i) as u64;
+    let kind = kind_word(nodes, i) as u64;
     let datum = datum_of(nodes, i);
     let count = children_of(nodes, pool, i).len();
     put_row(work, i, i, kind, datum, count);

@@ -2,6 +2,7 @@
 ghost use Rattle.std.specs.Prelude.{◌≡◌, true, ◌+◌, ◌*◌, ◌≤◌, ◌<◌, length, take};
 ghost use Rattle.meaning.specs.Rules.Limits.{work_per_node, most_operands};
 ghost use Rattle.meaning.specs.Rules.Trees.{node_count, kind_at};
+ghost use Rattle.meaning.specs.Rules.Kinds.{kind_of};
 ghost use Rattle.meaning.specs.Rules.Reach.{mark_of};
 ghost use Rattle.meaning.specs.Claims.Column.{Sound};
 ghost use Rattle.folding.specs.Folded.{Each};
@@ -12,24 +13,27 @@ use accepted::program_of;
 use folding::{Folded, fold_lut};
 use form_rows::home_of;
 use lists::children::children_of;
-use meaning::kinds::{LUT, VARIABLE};
+use meaning::kinds::Kind;
 use nodes::{kind_of, wide};
 
 // Inner: is a node of this kind folded? The gates, kinds 4 to 8, and Lut are.
-pub(crate) fn is_folded(kind: u32) -> bool
+pub(crate) fn is_folded(kind: Kind) -> bool
     ensures { result ≡ folds kind }
 {
-    kind > VARIABLE && kind <= LUT
+    matches!(
+        kind,
+        Kind::Nor | Kind::Mux | Kind::And | Kind::Xor | Kind::Not | Kind::Lut
+    )
 }
 
 // "Mux, And, Xor, Nor, Not become Luts of programs 202, 8, 6, 1, 1"
-fn gate_program(kind: u32) -> u64
+fn gate_program(kind: Kind) -> u64
     ensures { result ≡ gate_program kind }
 {
     match kind {
-        5 => 202,
-        6 => 8,
-        7 => 6,
+        Kind::Mux => 202,
+        Kind::And => 8,
+        Kind::Xor => 6,
         _ => 1,
     }
 }
@@ -41,11 +45,10 @@ fn program_at(nodes: &[u32], pool: &[u32], i: usize) -> u64
     requires i_nonzero { 0 < mark_of nodes.now pool.now i }
     ensures { result ≡ program_at nodes.now pool.now i }
 {
-    let kind = kind_of(nodes, i);
-    if kind == LUT {
-        return program_of(nodes, pool, i);
+    match kind_of(nodes, i) {
+        Kind::Lut => program_of(nodes, pool, i),
+        kind => gate_program(kind),
     }
-    gate_program(kind)
 }
 
 // A gate's children, or a Lut's behind its Program.
@@ -56,10 +59,10 @@ fn operands_of<'a>(nodes: &[u32], pool: &'a [u32], i: usize) -> &'a [u32]
     ensures { result.now ≡ operands_at nodes.now pool.now i }
 {
     let children = children_of(nodes, pool, i);
-    if kind_of(nodes, i) == LUT {
-        return &children[1..];
+    match kind_of(nodes, i) {
+        Kind::Lut => &children[1..],
+        _ => children,
     }
-    children
 }
 
 // The homes of these nodes, into the front of the lent list.
@@ -68,9 +71,8 @@ fn read_homes(operands: &[u32], work: &[u64], homes: &mut [u64])
     requires each { Each (λ c. work_per_node * c + work_per_node ≤ length work.now) operands.now }
     ensures { take (length operands.now) homes.new ≡ homes_of work.now operands.now }
 {
-    let count = operands.len();
-    for j in 0..count {
-        homes[j] = home_of(work, wide(operands[j])) as u64;
+    for (j, operand) in operands.iter().enumerate() {
+        homes[j] = home_of(work, wide(*operand)) as u64;
     }
 }
 
@@ -84,7 +86,7 @@ pub(crate) fn folded_at(
 ) -> Folded
     requires turn { Turn nodes.now pool.now work.now i }
     requires i_nonzero { 0 < mark_of nodes.now pool.now i }
-    requires i_value { folds (kind_at nodes.now i) ≡ true }
+    requires i_value { folds (kind_of (kind_at nodes.now i)) ≡ true }
     requires homes_len { length homes.old ≡ most_operands }
     ensures { Outcome nodes.now pool.now work.now i result homes.new }
 {

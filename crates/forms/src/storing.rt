@@ -27,9 +27,8 @@ fn put_operands(work: &mut [u64], i: usize, homes: &[u64])
     requires homes_len_bound { length homes.now ≤ most_operands }
     ensures { Placed work.old work.new i homes.now (length homes.now) }
 {
-    let count = homes.len();
-    for j in 0..count {
-        put(work, OPERAND + j, i, homes[j]);
+    for (j, home) in homes.iter().enumerate() {
+        put(work, OPERAND + j, i, *home);
     }
 }
 

@@ -12,7 +12,7 @@ ghost use Rattle.input_bits.specs.Seen.{IsMask, IsBitOf};
 
 use bits::power_of_two;
 use columns::{MARK, get};
-use meaning::kinds::VARIABLE;
+use meaning::kinds::Kind;
 use nodes::{first_of, kind_of, node_count};
 
 // Inner: the variables below the root, bit v for variable v, in one walk over the nodes. The pool is lent for the
@@ -25,9 +25,8 @@ pub fn input_mask(nodes: &[u32], pool: &[u32], n: usize, work: &[u64]) -> u64
     ensures mask { IsMask (root_of nodes.now pool.now) result }
 {
     let mut mask: u64 = 0;
-    let count = node_count(nodes);
-    for i in 0..count {
-        mask = mask | input_bit(nodes, pool, n, work, i);
+    for i in 0..node_count(nodes) {
+        mask |= input_bit(nodes, pool, n, work, i);
     }
     mask
 }
@@ -41,11 +40,9 @@ fn input_bit(nodes: &[u32], pool: &[u32], n: usize, work: &[u64], i: usize) -> u
     ensures upper_bound { result < 2 ^ n }
     ensures bit_of { IsBitOf nodes.now pool.now i result }
 {
-    if kind_of(nodes, i) != VARIABLE {
-        return 0;
+    if kind_of(nodes, i) == Kind::Var && get(work, MARK, i) > 0 {
+        power_of_two(first_of(nodes, i) as u64)
+    } else {
+        0
     }
-    if get(work, MARK, i) == 0 {
-        return 0;
-    }
-    power_of_two(first_of(nodes, i) as u64)
 }

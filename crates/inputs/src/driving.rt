@@ -21,9 +21,7 @@ pub fn drive(variables: &[usize], index: u64, bytes: &mut [u8])
     requires others_undriven { OthersUndriven variables.now bytes.old }
     ensures { assignments.given bytes.new ≡ assignments.drive variables.now index }
 {
-    let mut j = variables.len();
-    while j > 0 {
-        j = j - 1;
+    for j in (0..variables.len()).rev() {
         bytes[variables[j]] = bit_byte(index, j);
     }
 }

@@ -9,7 +9,7 @@
 
 pub mod driving;
 
-ghost use Rattle.std.specs.Prelude.{◌≡◌, cond, ◌+◌, ◌<◌, ◌≤◌, length, set, take};
+ghost use Rattle.std.specs.Prelude.{◌≡◌, ◌<◌, ◌≤◌, length, take};
 ghost use Rattle.meaning.specs.Rules.Limits.{variable_count};
 ghost use Rattle.meaning.specs.Rules.Trees.{node_count, root_of};
 ghost use Rattle.meaning.specs.Rules.Assignments as assignments;
@@ -17,13 +17,30 @@ ghost use Rattle.rows.specs.Rows.{Prepared};
 ghost use Rattle.inputs.specs.Inputs.{is_input};
 
 use columns::{MARK, get};
-use meaning::kinds::VARIABLE;
+use meaning::kinds::Kind;
 use meaning::limits::VARIABLE_COUNT;
 use nodes::{first_of, kind_of, node_count};
 
-// Inner: the variables below the root, lowest number first, at the start of `variables`; answers how many they are. The
-// pool is lent for the contract alone, here and below: which nodes the root reaches is in the marks.
-pub fn get_input_set(
+// Inner: the variables below the root, lowest number first, in the room that is lent. The pool is lent for the contract
+// alone, here and below: which nodes the root reaches is in the marks.
+pub fn get_input_set<'a>(
+    nodes: &[u32],
+    pool: &[u32],
+    base: usize,
+    work: &[u64],
+    room: &'a mut [usize],
+) -> &'a [usize]
+    requires prepared { Prepared nodes.now pool.now base work.now }
+    requires room_len { length room.old ≡ variable_count }
+    ensures upper_bound { length result.now ≤ variable_count }
+    ensures value { result.now ≡ assignments.inputs (root_of nodes.now pool.now) }
+{
+    let count = put_input_set(nodes, pool, base, work, room);
+    &room[..count]
+}
+
+// Inner: the same at the start of `variables`, for a caller who reads them there later; answers how many they are.
+pub fn put_input_set(
     nodes: &[u32],
     pool: &[u32],
     base: usize,
@@ -37,21 +54,10 @@ pub fn get_input_set(
 {
     let mut count: usize = 0;
     for v in 0..VARIABLE_COUNT {
-        let found = occurs(nodes, pool, base, work, v);
-        count = keep(variables, count, v, found);
-    }
-    count
-}
-
-// A variable behind those found so far; where it is none, the next takes its place.
-fn keep(variables: &mut [usize], count: usize, v: usize, found: bool) -> usize
-    requires { count < length variables.old }
-    ensures value { result ≡ cond found (count + 1) count }
-    ensures variables_after { variables.new ≡ set variables.old count v }
-{
-    variables[count] = v;
-    if found {
-        return count + 1;
+        if occurs(nodes, pool, base, work, v) {
+            variables[count] = v;
+            count += 1;
+        }
     }
     count
 }
@@ -62,13 +68,7 @@ fn occurs(nodes: &[u32], pool: &[u32], base: usize, work: &[u64], v: usize) -> b
     requires { Prepared nodes.now pool.now base work.now }
     ensures { result ≡ assignments.occurs v (root_of nodes.now pool.now) }
 {
-    let n = node_count(nodes);
-    for i in 0..n {
-        if is_input(nodes, pool, base, work, v, i) {
-            return true;
-        }
-    }
-    false
+    (0..node_count(nodes)).any(|i| is_input(nodes, pool, base, work, v, i))
 }
 
 // Is node i that variable ("Var: first is its number"), and reached? Few nodes are, so the mark is read last.
@@ -77,11 +77,5 @@ fn is_input(nodes: &[u32], pool: &[u32], base: usize, work: &[u64], v: usize, i:
     requires i_bound { i < node_count nodes.now }
     ensures { result ≡ is_input nodes.now pool.now v i }
 {
-    if kind_of(nodes, i) != VARIABLE {
-        return false;
-    }
-    if first_of(nodes, i) != v {
-        return false;
-    }
-    get(work, MARK, base + i) > 0
+    kind_of(nodes, i) == Kind::Var && first_of(nodes, i) == v && get(work, MARK, base + i) > 0
 }

@@ -1,48 +1,47 @@
--- Words one by one, as a loop goes through them; no second outcome; and examples.
-use Rattle.std.specs.Prelude.{ℕ, suc, ◌+◌, ◌≤◌, ◌<◌, ◌≡◌, refl, Bool, true, false, List, [], ◌∷◌, ◌++◌, length, get_or, take, drop, set}
+-- Words one by one, as a loop fills them; places and words, as they are looked through; no second outcome; and examples.
+use Rattle.std.specs.Prelude.{ℕ, zero, suc, ◌+◌, ◌≤◌, ◌<◌, ◌≡◌, refl, Bool, true, false, ◌&&◌, List, [], ◌∷◌, ◌++◌, length, take, drop, set}
+use Rattle.std.specs.List.{list_all, enumerate_from}
 use Rattle.std.proofs.Common.{sym, ap, ◌∙◌, add-one, arith, take-append-drop, drop_of_length-le, take-suc-set, drop-set-lt}
 use Rattle.std.proofs.Math.Seq.{drop-cons, append_snoc}
-use borrow.Author.Tests.{eq-eqb, ne_eqb}
-use Rattle.lent_words.specs.Lent.{wide, narrow, before, after, filled, left}
+use Rattle.lent_words.specs.Lent.{wide, narrow, filled_by, filled, left_by, left}
 
 -- ---- before the call: the places passed with those to come
 
-abbrev pub filled_from : ℕ → List ℕ → ℕ → List ℕ
-filled_from mark words place = take place words ++ filled mark place (drop place words)
+module _ {A : Type 0} (word : ℕ → A) (words : List A) (place : ℕ) where
+  abbrev pub filled_from : List A
+  filled_from = take place words ++ filled_by word place (drop place words)
 
-pub filled_more : (mark : ℕ) (words : List ℕ) (place : ℕ) → place < length words
-    → filled_from mark words place ≡ filled_from mark (set words place (before mark place)) (place + 1)
-unfolding filled
-filled_more mark words place l =
-    let passed = take-suc-set words place (before mark place) l in
-    let to_come = drop-set-lt (suc place) words place (before mark place) (omega arith) in
-    rw (add-one place, passed, to_come, append_snoc, drop-cons words place 0 l)
+  none_to_come : length words ≤ place → filled_by word place (drop place words) ≡ drop place words
+  unfolding filled_by
+  none_to_come l = rw (drop_of_length-le words l)
 
-none_to_come : (mark : ℕ) (words : List ℕ) (place : ℕ) → length words ≤ place
-    → filled mark place (drop place words) ≡ drop place words
-unfolding filled
-none_to_come mark words place l = rw (drop_of_length-le words l)
+  pub filled_whole : length words ≤ place → filled_from ≡ words
+  filled_whole l = ap (λ (xs : List A). take place words ++ xs) (none_to_come l) ∙ take-append-drop place words
 
-pub filled_whole : (mark : ℕ) (words : List ℕ) (place : ℕ) → length words ≤ place → filled_from mark words place ≡ words
-filled_whole mark words place l =
-    ap (λ (xs : List ℕ). take place words ++ xs) (none_to_come mark words place l) ∙ take-append-drop place words
+pub filled_more : {A : Type 0} (word : ℕ → A) (words : List A) (place : ℕ) → place < length words
+    → filled_from word words place ≡ filled_from word (set words place (word place)) (place + 1)
+unfolding filled_by
+filled_more word words place l =
+    let passed = take-suc-set words place (word place) l in
+    let to_come = drop-set-lt (suc place) words place (word place) (omega arith) in
+    rw (add-one place, passed, to_come, append_snoc, drop-cons words place (word place) l)
 
--- ---- after it: the places to come
+-- ---- after it: each word with its place
 
-module _ (mark : ℕ) (words : List ℕ) (cleared : Bool) (place : ℕ) where
-  pub left_more : place < length words → get_or words place 0 ≡ after mark cleared place
-      → left mark cleared place (drop place words) ≡ left mark cleared (place + 1) (drop (place + 1) words)
-  unfolding left
-  left_more l e = rw (add-one place, drop-cons words place 0 l, eq-eqb _ _ e)
+module _ {A : Type 0} (eq : A → A → Bool) (word : ℕ → A) where
+  looked : (n k place : ℕ) (words : List A) → n + k ≡ place
+      → list_all (λ p. eq p.1 (word p.0)) (drop k (enumerate_from n words)) ≡ left_by eq word place (drop k words)
+  unfolding left_by
+  looked n zero place [] e = refl
+  looked n (suc k) place [] e = refl
+  looked n zero place (x ∷ words) e =
+      let here : n ≡ place = omega arith in
+      rw here (ap (λ (b : Bool). eq x (word place) && b) (looked (place + 1) zero (suc place) words (omega arith)))
+  looked n (suc k) place (x ∷ words) e = looked (n + 1) k place words (omega arith)
 
-  pub left_stop : place < length words → (get_or words place 0 ≡ after mark cleared place → ⊥)
-      → left mark cleared place (drop place words) ≡ false
-  unfolding left
-  left_stop l n = rw (drop-cons words place 0 l, ne_eqb _ _ n)
-
-  pub left_whole : length words ≤ place → left mark cleared place (drop place words) ≡ true
-  unfolding left
-  left_whole l = rw (drop_of_length-le words l)
+  pub looked_through : (from : ℕ) (words : List A)
+      → list_all (λ p. eq p.1 (word p.0)) (drop from (enumerate_from 0 words)) ≡ left_by eq word from (drop from words)
+  looked_through from words = looked 0 from from words (omega arith)
 
 -- ---- no second outcome
 
@@ -57,27 +56,27 @@ is_left_only mark words from cleared p q = p ∙ sym q
 -- ---- examples
 
 pub filled_example : filled wide 0 (7 ∷ 0 ∷ []) ≡ 9223372036854775808 ∷ 9223372036854775809 ∷ []
-unfolding filled
+unfolding filled_by
 filled_example = refl
 
 pub narrow_example : filled narrow 0 (7 ∷ 0 ∷ []) ≡ 2147483648 ∷ 2147483649 ∷ []
-unfolding filled
+unfolding filled_by
 narrow_example = refl
 
 -- what is filled is left alone, and is not cleared; zeros are cleared, and are not left alone
 pub left_alone : left wide false 0 (filled wide 0 (7 ∷ 0 ∷ [])) ≡ true
-unfolding filled left
+unfolding filled_by left_by
 left_alone = refl
 
 pub not_cleared : left wide true 1 (drop 1 (filled wide 0 (7 ∷ 0 ∷ []))) ≡ false
-unfolding filled left
+unfolding filled_by left_by
 not_cleared = refl
 
 pub zeros_cleared : left wide true 0 (0 ∷ 0 ∷ []) ≡ true
-unfolding left
+unfolding left_by
 zeros_cleared = refl
 
 -- a word of another place
 pub one_moved : left wide false 1 (9223372036854775808 ∷ []) ≡ false
-unfolding left
+unfolding left_by
 one_moved = refl

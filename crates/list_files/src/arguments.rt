@@ -3,10 +3,7 @@ use std::env::{Env, FillError};
 
 pub fn argument_count(rt: &impl Env) -> usize {
     let mut first = [0u8; 1];
-    for i in 0..usize::MAX {
-        if let Err(FillError::NotPresent) = rt.arg(i, &mut first) {
-            return i;
-        }
-    }
-    usize::MAX
+    (0..usize::MAX)
+        .find(|i| matches!(rt.arg(*i, &mut first), Err(FillError::NotPresent)))
+        .unwrap_or(usize::MAX)
 }

@@ -13,31 +13,26 @@ ghost use Rattle.io.specs.Counts.{IsPrefixLen};
 ghost use Rattle.list_files.specs.Texts as texts;
 
 pub use io::{buffer, large_buffer};
-use list_parts::{Found, ends, find_list};
+use list_parts::{ListAt, ends, find_list};
 use messages::{write_failure, write_no_argument, write_no_name, write_too_long};
 use std::env::Env;
 use std::fs::File;
 use std::io::{Read, Write};
 use std::str;
 
-// So many bytes are the whole text; or there is none, and the message is written.
-#[derive(Clone, Copy)]
-pub enum Text {
-    Bytes(usize),
-    Nothing,
-}
-
 // Is that argument `-`, which stands for standard input?
 pub fn names_input(rt: &impl Env, i: usize) -> bool {
     let mut argument = buffer();
-    match rt.arg(i, &mut argument) {
-        Ok(n) => n == 1 && argument[0] == b'-',
-        Err(_) => false,
-    }
+    matches!(rt.arg(i, &mut argument), Ok(1)) && argument[0] == b'-'
 }
 
 // The list that is alone in the file which an argument names, or on standard input.
-pub fn list_of_source(rt: &HostRuntime, i: usize, nodes: &mut [u32], pool: &mut [u32]) -> Found
+pub fn list_of_source(
+    rt: &HostRuntime,
+    i: usize,
+    nodes: &mut [u32],
+    pool: &mut [u32],
+) -> Option<ListAt>
     ensures { parts.Held nodes.new pool.new result }
 {
     if names_input(rt, i) {
@@ -48,8 +43,13 @@ pub fn list_of_source(rt: &HostRuntime, i: usize, nodes: &mut [u32], pool: &mut 
     list_of_argument(rt, i, nodes, pool)
 }
 
-// The list that is alone in the file which an argument names.
-pub fn list_of_argument(rt: &HostRuntime, i: usize, nodes: &mut [u32], pool: &mut [u32]) -> Found
+// The list that is alone in the file which an argument names; or none, and the message is written.
+pub fn list_of_argument(
+    rt: &HostRuntime,
+    i: usize,
+    nodes: &mut [u32],
+    pool: &mut [u32],
+) -> Option<ListAt>
     ensures { parts.Held nodes.new pool.new result }
 {
     let mut path = buffer();
@@ -57,25 +57,30 @@ pub fn list_of_argument(rt: &HostRuntime, i: usize, nodes: &mut [u32], pool: &mu
         Ok(n) => list_of_path(rt, &path[..n], nodes, pool),
         Err(why) => {
             let _ = write_no_argument(&mut rt.stderr(), why);
-            Found::Nothing
+            None
         }
     }
 }
 
 // A file is opened by a name that is text; another one is refused, since no call of the library takes it.
-fn list_of_path(rt: &HostRuntime, path: &[u8], nodes: &mut [u32], pool: &mut [u32]) -> Found
+fn list_of_path(
+    rt: &HostRuntime,
+    path: &[u8],
+    nodes: &mut [u32],
+    pool: &mut [u32],
+) -> Option<ListAt>
     ensures { parts.Held nodes.new pool.new result }
 {
     match str::from_utf8(path) {
         Ok(name) => list_of_name(rt, name, nodes, pool),
         Err(_) => {
             let _ = write_no_name(&mut rt.stderr(), path);
-            Found::Nothing
+            None
         }
     }
 }
 
-fn list_of_name(rt: &HostRuntime, name: &str, nodes: &mut [u32], pool: &mut [u32]) -> Found
+fn list_of_name(rt: &HostRuntime, name: &str, nodes: &mut [u32], pool: &mut [u32]) -> Option<ListAt>
     ensures { parts.Held nodes.new pool.new result }
 {
     let mut err = rt.stderr();
@@ -83,7 +88,7 @@ fn list_of_name(rt: &HostRuntime, name: &str, nodes: &mut [u32], pool: &mut [u32
         Ok(mut file) => list_of_file(&mut file, &mut err, name.as_bytes(), nodes, pool),
         Err(why) => {
             let _ = write_failure(&mut err, name.as_bytes(), &why);
-            Found::Nothing
+            None
         }
     }
 }
@@ -94,15 +99,12 @@ fn list_of_file<R: Read, W: Write>(
     name: &[u8],
     nodes: &mut [u32],
     pool: &mut [u32],
-) -> Found
+) -> Option<ListAt>
     ensures { parts.Held nodes.new pool.new result }
 {
     let mut text = large_buffer();
-    let reading = read_text(source, err, name, &mut text);
-    match reading {
-        Text::Bytes(n) => list_alone(err, name, &text[..n], nodes, pool),
-        Text::Nothing => Found::Nothing,
-    }
+    let n = read_text(source, err, name, &mut text)?;
+    list_alone(err, name, &text[..n], nodes, pool)
 }
 
 fn list_alone<W: Write>(
@@ -111,46 +113,38 @@ fn list_alone<W: Write>(
     text: &[u8],
     nodes: &mut [u32],
     pool: &mut [u32],
-) -> Found
+) -> Option<ListAt>
     ensures { parts.Held nodes.new pool.new result }
 {
-    let found = find_list(err, name, text, 0, nodes, pool);
-    match found {
-        Found::List {
-            words: _,
-            entries: _,
-            next,
-        } => {
-            if ends(err, name, text, next) {
-                return found;
-            }
-            Found::Nothing
-        }
-        Found::Nothing => Found::Nothing,
+    let list = find_list(err, name, text, 0, nodes, pool)?;
+    if ends(err, name, text, list.next) {
+        Some(list)
+    } else {
+        None
     }
 }
 
-// All that a source holds, at the start of what is lent. One read more than fills it tells the source's end from a read
-// that failed and from a source that goes on.
+// All that a source holds, at the start of what is lent: so many bytes; or there is no text, and the message is written.
+// One read more than fills it tells the source's end from a read that failed and from a source that goes on.
 pub fn read_text<R: Read, W: Write>(
     source: &mut R,
     err: &mut W,
     name: &[u8],
     text: &mut [u8],
-) -> Text
+) -> Option<usize>
     ensures { texts.Lendable text.new result }
 {
     let length = read_full(source, text);
     let mut behind = [0u8; 1];
     match source.read(&mut behind) {
-        Ok(0) => Text::Bytes(length),
+        Ok(0) => Some(length),
         Ok(_) => {
             let _ = write_too_long(err, name, length);
-            Text::Nothing
+            None
         }
         Err(why) => {
             let _ = write_failure(err, name, &why);
-            Text::Nothing
+            None
         }
     }
 }
@@ -162,9 +156,8 @@ fn read_full<R: Read>(source: &mut R, text: &mut [u8]) -> usize
     let mut done = 0;
     while done < text.len() {
         match source.read(&mut text[done..]) {
-            Ok(0) => break,
+            Ok(0) | Err(_) => break,
             Ok(n) => done += n,
-            Err(_) => break,
         }
     }
     done

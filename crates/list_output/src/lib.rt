@@ -27,9 +27,9 @@ pub fn pool_length(work: &[u64], count: usize) -> usize
     requires count_bound { count ≤ 2 * most_nodes }
     ensures { result ≡ pool_size work.now count }
 {
-    let mut at: usize = 0;
+    let mut at = 0;
     for k in 0..count {
-        at = at + child_count(work, listed_at(work, k));
+        at += child_count(work, listed_at(work, k));
     }
     at
 }
@@ -41,11 +41,11 @@ pub fn write_nodes(work: &[u64], count: usize, out: &mut [u32])
     requires count_bound { pool_size work.now count ≤ most_pool }
     ensures { out.new ≡ written (row_nodes work.now count) out.old }
 {
-    let mut at: usize = 0;
+    let mut at = 0;
     for k in 0..count {
         let entry = listed_at(work, k);
         write_node(work, entry, at, k, out);
-        at = at + child_count(work, entry);
+        at += child_count(work, entry);
     }
 }
 
@@ -56,10 +56,10 @@ pub fn write_pool(nodes: &[u32], pool: &[u32], work: &[u64], count: usize, out: 
     requires pool_in_bounds { length (canonical_pool nodes.now pool.now) ≤ length out.old }
     ensures { out.new ≡ written (canonical_pool nodes.now pool.now) out.old }
 {
-    let mut at: usize = 0;
+    let mut at = 0;
     for k in 0..count {
         let entry = listed_at(work, k);
         write_part(nodes, pool, work, entry, at, out);
-        at = at + child_count(work, entry);
+        at += child_count(work, entry);
     }
 }

@@ -30,10 +30,10 @@ pub(crate) fn write_node(work: &[u64], entry: usize, at: usize, k: usize, out: &
     let kind = entry_kind(work, entry);
     if kind > VARIABLE {
         put_node(out, k, kind, at as u32, child_count(work, entry) as u32);
-        return;
+    } else {
+        let datum = datum_in(work, entry / PAIR);
+        put_node(out, k, kind, (datum % HALF) as u32, (datum / HALF) as u32);
     }
-    let datum = datum_in(work, entry / PAIR);
-    put_node(out, k, kind, (datum % HALF) as u32, (datum / HALF) as u32);
 }
 
 // Stores the words of node k, zeros where a node has more than those three. No other function says where they go.
@@ -45,7 +45,5 @@ fn put_node(out: &mut [u32], k: usize, kind: u32, first: u32, count: u32)
     out[at] = kind;
     out[at + 1] = first;
     out[at + 2] = count;
-    for w in NAMED..WORDS_PER_NODE {
-        out[at + w] = 0;
-    }
+    out[at + NAMED..at + WORDS_PER_NODE].fill(0);
 }

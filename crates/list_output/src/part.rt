@@ -41,10 +41,9 @@ fn write_program(work: &[u64], h: usize, at: usize, out: &mut [u32])
     requires h_in_bounds { at + program_count work.now h ≤ length out.old }
     ensures { out.new ≡ sets out.old at (program_part work.now h) }
 {
-    if kind_in(work, h) != LUT {
-        return;
+    if kind_in(work, h) == LUT {
+        out[at] = get(work, PROGRAM_NUMBER, h) as u32;
     }
-    out[at] = get(work, PROGRAM_NUMBER, h) as u32;
 }
 
 // The numbers of the children that the row of h counts.
@@ -53,13 +52,13 @@ fn write_kids(nodes: &[u32], pool: &[u32], work: &[u64], h: usize, at: usize, ou
     requires h_in_bounds { at + cell work.now count_column h ≤ length out.old }
     ensures { out.new ≡ sets out.old at (kids_part nodes.now pool.now work.now h) }
 {
-    let count = kid_count(work, h);
-    for j in 0..count {
+    for j in 0..kid_count(work, h) {
         out[at + j] = kid_number(nodes, pool, work, h, j);
     }
 }
 
 // The number of child j of the form in row h.
+#[tactic(auto, unfolding(crate::specs::Words::kid_number))]
 fn kid_number(nodes: &[u32], pool: &[u32], work: &[u64], h: usize, j: usize) -> u32
     requires numbers { Numbers nodes.now pool.now work.now h }
     requires j_bound { j < cell work.now count_column h }

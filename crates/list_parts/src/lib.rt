@@ -10,22 +10,14 @@ ghost use Rattle.std.specs.Prelude.{◌≡◌, length};
 ghost use Rattle.list_texts.specs.Counted as counted;
 ghost use Rattle.list_parts.specs.Parts as parts;
 
-use list_texts::{ListAt, Rest, list_at, rest_from};
+pub use list_texts::ListAt;
+use list_texts::{NoList, list_at, rest_from};
 use messages::{write_bad, write_left_over, write_too_many};
 use std::io::Write;
 
-// A list at the start of what was lent for it, and the offset behind it; or nothing, and the message is written.
-#[derive(Clone, Copy)]
-pub enum Found {
-    List {
-        words: usize,
-        entries: usize,
-        next: usize,
-    },
-    Nothing,
-}
-
-// The list that stands in a text from an offset on. What is lent is scratch where nothing is found.
+// The list that stands in a text from an offset on, at the start of what was lent for it; or none, and the message is
+// written. What is lent is scratch where there is none. A list is told by its counts: what a result borrows from has no
+// value that `nodes_after` and `pool_after` could speak of.
 pub fn find_list<W: Write>(
     err: &mut W,
     name: &[u8],
@@ -33,30 +25,21 @@ pub fn find_list<W: Write>(
     at: usize,
     nodes: &mut [u32],
     pool: &mut [u32],
-) -> Found
+) -> Option<ListAt>
     ensures value { result ≡ parts.found (counted.list_at text.now at (length nodes.old) (length pool.old)) }
     ensures nodes_after { nodes.new ≡ counted.filled_part text.now at nodes.old }
     ensures pool_after { pool.new ≡ counted.filled_pool text.now at (length nodes.old) pool.old }
     ensures held { parts.Held nodes.new pool.new result }
 {
-    let reading = list_at(text, at, nodes, pool);
-    match reading {
-        ListAt::Whole {
-            words,
-            entries,
-            next,
-        } => Found::List {
-            words: words,
-            entries: entries,
-            next: next,
-        },
-        ListAt::Bad(offset) => {
-            let _ = write_bad(err, name, text, offset);
-            Found::Nothing
+    match list_at(text, at, nodes, pool) {
+        Ok(list) => Some(list),
+        Err(NoList::Bad(bad)) => {
+            let _ = write_bad(err, name, text, bad.offset);
+            None
         }
-        ListAt::TooMany(offset) => {
+        Err(NoList::TooMany(offset)) => {
             let _ = write_too_many(err, name, nodes.len(), pool.len(), offset);
-            Found::Nothing
+            None
         }
     }
 }
@@ -65,15 +48,14 @@ pub fn find_list<W: Write>(
 pub fn ends<W: Write>(err: &mut W, name: &[u8], text: &[u8], at: usize) -> bool
     ensures { result ≡ parts.is_blank (counted.rest_from text.now at) }
 {
-    let rest = rest_from(text, at);
-    match rest {
-        Rest::Blank => true,
-        Rest::Words => {
+    match rest_from(text, at) {
+        Ok(true) => true,
+        Ok(false) => {
             let _ = write_left_over(err, name, at);
             false
         }
-        Rest::Bad(offset) => {
-            let _ = write_bad(err, name, text, offset);
+        Err(bad) => {
+            let _ = write_bad(err, name, text, bad.offset);
             false
         }
     }

@@ -1,5 +1,5 @@
 -- Room for a list, as the arrays of src have it.
-use Rattle.std.specs.Prelude.{ℕ, ◌≡◌, refl, List, length, replicate}
+use Rattle.std.specs.Prelude.{ℕ, ◌≡◌, List, length, replicate}
 use Rattle.std.proofs.lemmas.List.{length-replicate}
 
 abbrev pub node_room : ℕ
@@ -14,14 +14,13 @@ work_room = 98400
 abbrev pub pair_work_room : ℕ
 pair_work_room = 200000
 
--- so many zeros, not written out
-unfoldable pub zeros : ℕ → List ℕ
-zeros n = replicate n 0
+-- so many of one element, not written out
+unfoldable pub copies : {A : Type 0} → ℕ → A → List A
+copies n x = replicate n x
 
-pub zeros_are : (n : ℕ) → replicate n 0 ≡ zeros n
-unfolding zeros
-zeros_are n = refl
+abbrev pub zeros : ℕ → List ℕ
+zeros n = copies n 0
 
 pub zeros_length : (n : ℕ) → length (zeros n) ≡ n
-unfolding zeros
-zeros_length n = length-replicate n 0
+unfolding copies
+zeros_length n = length-replicate n _

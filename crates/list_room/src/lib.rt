@@ -6,7 +6,7 @@
 pub mod written;
 
 ghost use Rattle.std.specs.Prelude.{◌≡◌};
-ghost use Rattle.list_room.specs.Room.{zeros};
+ghost use Rattle.list_room.specs.Room.{copies, zeros};
 
 pub const NODE_ROOM: usize = 12300;
 
@@ -20,34 +20,41 @@ pub const PAIR_WORK_ROOM: usize = 200000;
 // Room for the text that a replay reads its cases from, two megabytes
 pub const TEXT_ROOM: usize = 2097152;
 
-// Each is a call, so that a proof has an array of that length before it and not so many zeros.
+// Room for N elements, each the one given: what a program lends a call is new. Each room is a call, so that a proof has an
+// array of that length before it and not so many zeros.
+#[tactic(auto, unfolding(crate::specs::Room::copies))]
+pub fn room<T: Copy, const N: usize>(element: T) -> [T; N]
+    ensures { result ≡ copies N element }
+{
+    [element; N]
+}
 
 pub fn node_room() -> [u32; NODE_ROOM]
     ensures { result ≡ zeros 12300 }
 {
-    [0; NODE_ROOM]
+    room::<_, NODE_ROOM>(0)
 }
 
 pub fn pool_room() -> [u32; POOL_ROOM]
     ensures { result ≡ zeros 16400 }
 {
-    [0; POOL_ROOM]
+    room::<_, POOL_ROOM>(0)
 }
 
 pub fn work_room() -> [u64; WORK_ROOM]
     ensures { result ≡ zeros 98400 }
 {
-    [0; WORK_ROOM]
+    room::<_, WORK_ROOM>(0)
 }
 
 pub fn pair_work_room() -> [u64; PAIR_WORK_ROOM]
     ensures { result ≡ zeros 200000 }
 {
-    [0; PAIR_WORK_ROOM]
+    room::<_, PAIR_WORK_ROOM>(0)
 }
 
 pub fn text_room() -> [u8; TEXT_ROOM]
     ensures { result ≡ zeros 2097152 }
 {
-    [0; TEXT_ROOM]
+    room::<_, TEXT_ROOM>(0)
 }

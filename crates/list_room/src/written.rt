@@ -4,6 +4,7 @@ ghost use Rattle.std.specs.Prelude.{◌≡◌};
 ghost use Rattle.list_room.specs.Room.{zeros};
 ghost use Rattle.list_room.specs.Written as written;
 
+use super::room;
 use meaning::limits::{WORDS_PER_NODE, WORK_PER_NODE, WORK_PER_POOL};
 
 const NODES_TAKEN: usize = 256;
@@ -21,23 +22,23 @@ pub const PAIR_WORK_ROOM: usize = 2 * WORK_ROOM;
 pub fn node_room() -> [u32; NODE_ROOM]
     ensures { result ≡ zeros written.node_room }
 {
-    [0; NODE_ROOM]
+    room::<_, NODE_ROOM>(0)
 }
 
 pub fn pool_room() -> [u32; POOL_ROOM]
     ensures { result ≡ zeros written.pool_room }
 {
-    [0; POOL_ROOM]
+    room::<_, POOL_ROOM>(0)
 }
 
 pub fn work_room() -> [u64; WORK_ROOM]
     ensures { result ≡ zeros written.work_room }
 {
-    [0; WORK_ROOM]
+    room::<_, WORK_ROOM>(0)
 }
 
 pub fn pair_work_room() -> [u64; PAIR_WORK_ROOM]
     ensures { result ≡ zeros written.pair_work_room }
 {
-    [0; PAIR_WORK_ROOM]
+    room::<_, PAIR_WORK_ROOM>(0)
 }

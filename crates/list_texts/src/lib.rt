@@ -6,108 +6,85 @@
 
 ghost use Rattle.std.specs.Prelude.{◌≡◌, length};
 ghost use Rattle.list_texts.specs.Counted as counted;
+ghost use Rattle.list_texts.specs.declared.NoList.TheVariants as no_list;
 
-use decimals::{Word, next_word};
-use list_words::{Entries, Entry, next_entries, next_entry};
+use decimals::{Bad, next_word};
+use list_words::{next_entries, next_entry};
 
-// A list, at the start of what was lent for it, and the offset behind it; the offset of what is no word of 32 bits; or
-// the offset behind a count that is above the places lent.
-#[derive(Clone, Copy)]
-pub enum ListAt {
-    Whole {
-        words: usize,
-        entries: usize,
-        next: usize,
-    },
-    Bad(usize),
+// A list, at the start of what was lent for it, and the offset behind it.
+#[derive(Clone, Copy, Debug, PartialEq, Eq)]
+pub struct ListAt {
+    pub words: usize,
+    pub entries: usize,
+    pub next: usize,
+}
+
+// Why there is none: what is no word of 32 bits; or a count that is above the places lent, by the offset behind it.
+#[derive(Clone, Copy, Debug, PartialEq, Eq)]
+pub enum NoList {
+    Bad(Bad),
     TooMany(usize),
 }
 
-// What stands in a text from an offset on: blanks alone, a word, or what is no word, with its offset.
-#[derive(Clone, Copy)]
-pub enum Rest {
-    Blank,
-    Words,
-    Bad(usize),
+impl From<Bad> for NoList {
+    ghost from_gives = { λ bad none. none ≡ no_list.Bad bad };
+
+    fn from(bad: Bad) -> NoList {
+        NoList::Bad(bad)
+    }
 }
 
-// A count and so many words, with the offset behind the last; else as above.
+// A count and so many words, with the offset behind the last.
 #[derive(Clone, Copy)]
-pub(crate) enum Part {
-    Whole { count: usize, next: usize },
-    Bad(usize),
-    TooMany(usize),
+pub(crate) struct Part {
+    count: usize,
+    next: usize,
 }
 
 // Any counts are taken that there are places for: whether the node words are a multiple of three is for number 1 to
-// say. What is lent is scratch where the answer is not Whole.
-pub fn list_at(text: &[u8], at: usize, nodes: &mut [u32], pool: &mut [u32]) -> ListAt
+// say. What is lent is scratch where there is no list.
+pub fn list_at(
+    text: &[u8],
+    at: usize,
+    nodes: &mut [u32],
+    pool: &mut [u32],
+) -> Result<ListAt, NoList>
     ensures value { result ≡ counted.list_at text.now at (length nodes.old) (length pool.old) }
     ensures nodes_after { nodes.new ≡ counted.filled_part text.now at nodes.old }
     ensures pool_after { pool.new ≡ counted.filled_pool text.now at (length nodes.old) pool.old }
     ensures fits { counted.Fits nodes.new pool.new result }
 {
-    let part = next_part(text, at, nodes);
-    match part {
-        Part::Whole { count, next } => pool_at(text, next, count, pool),
-        Part::Bad(offset) => ListAt::Bad(offset),
-        Part::TooMany(offset) => ListAt::TooMany(offset),
-    }
+    let words = next_part(text, at, nodes)?;
+    let entries = next_part(text, words.next, pool)?;
+    Ok(ListAt {
+        words: words.count,
+        entries: entries.count,
+        next: entries.next,
+    })
 }
 
-// Behind the last list only blanks may stand.
-pub fn rest_from(text: &[u8], at: usize) -> Rest
+// Whether there is nothing but blanks: behind the last list only these may stand.
+pub fn rest_from(text: &[u8], at: usize) -> Result<bool, Bad>
     ensures { result ≡ counted.rest_from text.now at }
 {
-    let word = next_word(text, at);
-    match word {
-        Word::Value { value: _, next: _ } => Rest::Words,
-        Word::End => Rest::Blank,
-        Word::Bad(offset) => Rest::Bad(offset),
-    }
+    Ok(next_word(text, at)?.is_none())
 }
 
-// The pool behind so many node words
-fn pool_at(text: &[u8], at: usize, words: usize, pool: &mut [u32]) -> ListAt
-    ensures value { result ≡ counted.pool_at text.now (length pool.old) words at }
-    ensures pool_after { pool.new ≡ counted.filled_part text.now at pool.old }
-{
-    let part = next_part(text, at, pool);
-    match part {
-        Part::Whole { count, next } => ListAt::Whole {
-            words: words,
-            entries: count,
-            next: next,
-        },
-        Part::Bad(offset) => ListAt::Bad(offset),
-        Part::TooMany(offset) => ListAt::TooMany(offset),
-    }
-}
-
-fn next_part(text: &[u8], at: usize, places: &mut [u32]) -> Part
+fn next_part(text: &[u8], at: usize, places: &mut [u32]) -> Result<Part, NoList>
     ensures value { result ≡ counted.next_part text.now (length places.old) at }
     ensures places_after { places.new ≡ counted.filled_part text.now at places.old }
 {
-    let entry = next_entry(text, at);
-    match entry {
-        Entry::Value { value, next } => counted_words(text, next, value as usize, places),
-        Entry::Bad(offset) => Part::Bad(offset),
-    }
+    let count = next_entry(text, at)?;
+    counted_words(text, count.next, count.value as usize, places)
 }
 
-fn counted_words(text: &[u8], at: usize, count: usize, places: &mut [u32]) -> Part
+fn counted_words(text: &[u8], at: usize, count: usize, places: &mut [u32]) -> Result<Part, NoList>
     ensures value { result ≡ counted.counted_words text.now (length places.old) count at }
     ensures places_after { places.new ≡ counted.filled_start text.now places.old count at }
 {
     if count > places.len() {
-        return Part::TooMany(at);
+        return Err(NoList::TooMany(at));
     }
-    let reading = next_entries(text, at, &mut places[..count]);
-    match reading {
-        Entries::Whole(next) => Part::Whole {
-            count: count,
-            next: next,
-        },
-        Entries::Bad(offset) => Part::Bad(offset),
-    }
+    let next = next_entries(text, at, &mut places[..count])?;
+    Ok(Part { count, next })
 }

@@ -9,45 +9,31 @@ mod entry;
 ghost use Rattle.std.specs.Prelude.{◌≡◌, length};
 ghost use Rattle.list_words.specs.Entries as entries;
 
-pub use entry::{Entry, next_entry};
+use decimals::Bad;
+pub use entry::next_entry;
 
-// As many words as are owed: the offset behind the last; or the offset of what is no word of 32 bits.
-#[derive(Clone, Copy)]
-pub enum Entries {
-    Whole(usize),
-    Bad(usize),
-}
-
-// The node words, and behind them the pool entries. The lent places are scratch where the answer is Bad, as for
-// `next_entries`.
-pub fn next_list(text: &[u8], at: usize, nodes: &mut [u32], pool: &mut [u32]) -> Entries
+// The node words, and behind them the pool entries: the offset behind the last. The lent places are scratch where the
+// answer is Bad, as for `next_entries`.
+pub fn next_list(text: &[u8], at: usize, nodes: &mut [u32], pool: &mut [u32]) -> Result<usize, Bad>
     ensures value { result ≡ entries.next_list text.now at (length nodes.old) (length pool.old) }
     ensures nodes_after { nodes.new ≡ entries.filled text.now at nodes.old }
     ensures pool_after { pool.new ≡ entries.filled_behind text.now at (length nodes.old) pool.old }
 {
-    let reading = next_entries(text, at, nodes);
-    match reading {
-        Entries::Whole(next) => next_entries(text, next, pool),
-        Entries::Bad(offset) => Entries::Bad(offset),
-    }
+    let next = next_entries(text, at, nodes)?;
+    next_entries(text, next, pool)
 }
 
-// Words one behind the other. Where the answer is Bad the places hold the words read so far, and behind those what
-// was there.
-pub fn next_entries(text: &[u8], at: usize, places: &mut [u32]) -> Entries
+// As many words as there are places, one behind the other: the offset behind the last. Where the answer is Bad the places
+// hold the words read so far, and behind those what was there.
+pub fn next_entries(text: &[u8], at: usize, places: &mut [u32]) -> Result<usize, Bad>
     ensures value { result ≡ entries.next_entries text.now at (length places.old) }
     ensures places_after { places.new ≡ entries.filled text.now at places.old }
 {
     let mut next = at;
-    for place in 0..places.len() {
-        let entry = next_entry(text, next);
-        match entry {
-            Entry::Value { value, next: after } => {
-                places[place] = value;
-                next = after;
-            }
-            Entry::Bad(offset) => return Entries::Bad(offset),
-        }
+    for place in places.iter_mut() {
+        let word = next_entry(text, next)?;
+        *place = word.value;
+        next = word.next;
     }
-    Entries::Whole(next)
+    Ok(next)
 }

@@ -9,23 +9,17 @@ use columns::{NUMBER, get};
 use form_rows::{datum_in, kid, kid_count, kind_in};
 
 // Is the form in row g the one in row h? The words are asked first: most forms differ in them.
+#[tactic(auto, unfolding(crate::specs::Likeness::same_row))]
 pub(crate) fn same_row(nodes: &[u32], pool: &[u32], work: &[u64], h: usize, g: usize) -> bool
     requires formed { Formed nodes.now pool.now work.now (node_count nodes.now) }
     requires home { Home nodes.now pool.now work.now h }
     requires home_2 { Home nodes.now pool.now work.now g }
     ensures { result ≡ same_row nodes.now pool.now work.now h g }
 {
-    if datum_in(work, h) != datum_in(work, g) {
-        return false;
-    }
-    if kind_in(work, h) != kind_in(work, g) {
-        return false;
-    }
-    let count = kid_count(work, h);
-    if count != kid_count(work, g) {
-        return false;
-    }
-    same_kids(nodes, pool, work, h, g, count)
+    datum_in(work, h) == datum_in(work, g)
+        && kind_in(work, h) == kind_in(work, g)
+        && kid_count(work, h) == kid_count(work, g)
+        && same_kids(nodes, pool, work, h, g, kid_count(work, h))
 }
 
 // Child by child the same number, for so many children that both have?
@@ -37,11 +31,8 @@ fn same_kids(nodes: &[u32], pool: &[u32], work: &[u64], h: usize, g: usize, coun
     requires count_bound_2 { count ≤ cell work.now count_column g }
     ensures { result ≡ same_kids nodes.now pool.now work.now h g count }
 {
-    for j in 0..count {
+    (0..count).all(|j| {
         let number = get(work, NUMBER, kid(nodes, pool, work, h, j));
-        if number != get(work, NUMBER, kid(nodes, pool, work, g, j)) {
-            return false;
-        }
-    }
-    true
+        number == get(work, NUMBER, kid(nodes, pool, work, g, j))
+    })
 }

@@ -26,6 +26,7 @@ pub const PAIR: usize = 2;
 pub const FIRST_NUMBER: u64 = 2;
 
 // Inner: entry k.
+#[tactic(auto, unfolding(crate::specs::Entries::listed_at))]
 pub fn listed_at(work: &[u64], k: usize) -> usize
     requires { work_per_node * (k / 2) + work_per_node ≤ length work.now }
     ensures { result ≡ listed_at work.now k }
@@ -47,27 +48,19 @@ pub fn lowest_program(work: &[u64], count: usize, program: u64) -> usize
     requires { Readable work.now count }
     ensures { result ≡ lowest (is_program work.now program) count }
 {
-    for k in 0..count {
-        if is_program(work, listed_at(work, k), program) {
-            return k;
-        }
-    }
-    count
+    (0..count)
+        .find(|&k| is_program(work, listed_at(work, k), program))
+        .unwrap_or(count)
 }
 
 // Is the entry this Program?
+#[tactic(auto, unfolding(crate::specs::Likeness::entry_is_program))]
 fn is_program(work: &[u64], entry: usize, program: u64) -> bool
     requires { work_per_node * (entry / 2) + work_per_node ≤ length work.now }
     ensures { result ≡ entry_is_program work.now program entry }
 {
     let h = entry / PAIR;
-    if datum_in(work, h) != program {
-        return false;
-    }
-    if entry % PAIR == 1 {
-        return true;
-    }
-    kind_in(work, h) == PROGRAM
+    datum_in(work, h) == program && (entry % PAIR == 1 || kind_in(work, h) == PROGRAM)
 }
 
 // Inner: the lowest of the first `count` entries that is the normal form in row h, which is no Program; `count` where
@@ -77,23 +70,18 @@ pub fn lowest_form(nodes: &[u32], pool: &[u32], work: &[u64], count: usize, h: u
     requires home { Home nodes.now pool.now work.now h }
     ensures { result ≡ lowest (is_form nodes.now pool.now work.now h) count }
 {
-    for k in 0..count {
-        if is_form(nodes, pool, work, h, listed_at(work, k)) {
-            return k;
-        }
-    }
-    count
+    (0..count)
+        .find(|&k| is_form(nodes, pool, work, h, listed_at(work, k)))
+        .unwrap_or(count)
 }
 
 // Is the entry the form in row h? An odd one is a Program.
+#[tactic(auto, unfolding(crate::specs::Likeness::entry_is_form))]
 fn is_form(nodes: &[u32], pool: &[u32], work: &[u64], h: usize, entry: usize) -> bool
     requires formed { Formed nodes.now pool.now work.now (node_count nodes.now) }
     requires home { Home nodes.now pool.now work.now h }
     requires home_2 { Home nodes.now pool.now work.now (entry / 2) }
     ensures { result ≡ entry_is_form nodes.now pool.now work.now h entry }
 {
-    if entry % PAIR != 0 {
-        return false;
-    }
-    same_row(nodes, pool, work, h, entry / PAIR)
+    entry % PAIR == 0 && same_row(nodes, pool, work, h, entry / PAIR)
 }

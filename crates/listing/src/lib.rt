@@ -88,7 +88,7 @@ fn enter(work: &mut [u64], at: Progress, h: usize) -> Progress
     put(work, NUMBER, h, MET);
     Progress {
         depth: at.depth + 1,
-        count: count,
+        count,
     }
 }
 
@@ -105,6 +105,6 @@ fn leave(nodes: &[u32], pool: &[u32], work: &mut [u64], at: Progress, h: usize) 
     put(work, NUMBER, h, number as u64 + FIRST_NUMBER);
     Progress {
         depth: at.depth - 1,
-        count: count,
+        count,
     }
 }

@@ -1,4 +1,4 @@
--- the arms of a match that no single number stands for
+-- numbers in a range
 pub mod Cases
 -- a loop that asks a test of each member of a list
 pub mod Scan

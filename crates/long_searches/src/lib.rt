@@ -11,7 +11,6 @@ ghost use Rattle.long_searches.specs.Accepted as accepted;
 
 use bits::power_of_two;
 use meaning::limits::MOST_INPUTS;
-use meaning::numbers::DONE;
 use sizes::sizes;
 use std::io;
 use std::io::Write;
@@ -22,18 +21,17 @@ const MANY: usize = 16;
 
 // Do the numbers 1 to 8 let a list pass? One that they refuse is not searched; one that passes has its marks in the
 // work space (specs/Accepted, `accepted_prepares`). Inner: the list and the room are those of a program.
+#[tactic(auto, using(crate::specs::Accepted::passed))]
 pub fn is_accepted(nodes: &[u32], pool: &[u32], work: &mut [u64]) -> bool
     requires taken { Taken nodes.now pool.now }
     requires work_room_in_bounds { work_room ≤ length work.old }
     ensures value { result ≡ accepted.is_accepted nodes.now pool.now }
     ensures work_after { work.new ≡ accepted.work_left nodes.now pool.now work.old }
 {
-    let sized = sizes(nodes, pool);
-    if sized.number != DONE {
-        return false;
+    match sizes(nodes, pool) {
+        Ok(()) => sound(nodes, pool, 0, work).is_ok(),
+        Err(_) => false,
     }
-    let refusal = sound(nodes, pool, 0, work);
-    refusal.number == DONE
 }
 
 // So many variables of what the caller names. Over 30 none are tried: equal trees are told without, and all else is

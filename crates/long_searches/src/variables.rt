@@ -6,10 +6,11 @@ ghost use Rattle.list_texts.specs.Counted.{Starts};
 ghost use Rattle.long_searches.specs.Shown.{variables_below};
 
 use super::is_accepted;
-use inputs::get_input_set;
+use inputs::put_input_set;
 
-// The variables, lowest first, at the start of what is lent; answers how many they are. A list that is refused has
-// none, and is not searched. Inner, as `is_accepted` is.
+// The variables, lowest first, at the start of what is lent; answers how many they are, and not the slice: the programs
+// hold the room beside other parts of theirs. A list that is refused has none, and is not searched. Inner, as
+// `is_accepted` is.
 pub fn variables_below(
     nodes: &[u32],
     pool: &[u32],
@@ -23,7 +24,8 @@ pub fn variables_below(
     ensures variables_after { take result variables.new ≡ variables_below nodes.now pool.now }
 {
     if is_accepted(nodes, pool, work) {
-        return get_input_set(nodes, pool, 0, work, variables);
+        put_input_set(nodes, pool, 0, work, variables)
+    } else {
+        0
     }
-    0
 }

@@ -16,21 +16,7 @@ use Rattle.meaning.specs.Rules.Reach.{is_cycle, nearer}
 use Rattle.columns.specs.Columns.{place, cell, mark_column, with_column}
 use Rattle.columns.specs.ColumnLaws.{changed, with_column_lem, with_same, with_stored}
 
--- ---- the nearer of two marks, by tests
-pub nearer_none : (a : ℕ) → nearer a 0 ≡ a
-nearer_none zero = refl
-nearer_none (suc a) = refl
-
-pub nearer_first : (a b : ℕ) → 0 < a → a < b → nearer a b ≡ a
-nearer_first zero b h l = absurd (omega arith)
-nearer_first (suc a) zero h l = absurd (omega arith)
-nearer_first (suc a) (suc b) h l = omega arith
-
-pub nearer_second : (a b : ℕ) → 0 < b → b ≤ a → nearer a b ≡ b
-nearer_second a zero h l = absurd (omega arith)
-nearer_second zero (suc b) h l = absurd (omega arith)
-nearer_second (suc a) (suc b) h l = omega arith
-
+-- ---- the nearer of two marks
 -- a child that stands twice gets no nearer by the second time
 nearer_again : (a b : ℕ) → nearer a (nearer a b) ≡ nearer a b
 nearer_again zero b = refl

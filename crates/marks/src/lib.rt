@@ -6,19 +6,18 @@
 // looked at once, however often a node is shared.
 #![tactic(auto)]
 
-ghost use Rattle.std.specs.Prelude.{◌≡◌, cond, ℕ, suc, ◌+◌, ◌*◌, ◌^◌, ◌<◌, ◌≤◌, length, get_or, eqb};
+ghost use Rattle.std.specs.Prelude.{◌≡◌, ℕ, ◌+◌, ◌*◌, ◌^◌, ◌<◌, ◌≤◌, length, get_or};
 ghost use Rattle.meaning.specs.Rules.Limits.{most_nodes, work_per_node};
-ghost use Rattle.meaning.specs.Rules.Kinds.{cycle_word};
 ghost use Rattle.meaning.specs.Rules.Trees.{node_count};
 ghost use Rattle.meaning.specs.Rules.Reach as reach;
 ghost use Rattle.meaning.specs.Claims.Column.{WellLaid};
 ghost use Rattle.lists.specs.Laid.{Laid};
 ghost use Rattle.columns.specs.Columns.{place, cell, mark_column, with_column};
-ghost use Rattle.marks.specs.Handing.{only_root, lowered, turn};
+ghost use Rattle.marks.specs.Handing.{only_root, lowered, handed_on, turn};
 
 use columns::{MARK, get, put};
 use lists::children::children_of;
-use meaning::kinds::CYCLE;
+use meaning::kinds::Kind;
 use nodes::{kind_of, node_count, wide};
 
 // Inner: column MARK of every node of a list past numbers 1 to 5, whose first row is `base`; all else in the work space
@@ -31,14 +30,13 @@ pub fn mark_reached(nodes: &[u32], pool: &[u32], base: usize, work: &mut [u64])
 {
     let n = node_count(nodes);
     mark_root(base, n, work);
-    let mut p = n;
-    while p > 1 {
-        p = p - 1;
+    for p in (1..n).rev() {
         hand_on(nodes, pool, base, p, work);
     }
 }
 
 // At first the root alone is reached, with no Cycle node over it.
+#[tactic(auto, using(columns::specs::ColumnLaws::with_none, columns::specs::ColumnLaws::with_next))]
 fn mark_root(base: usize, n: usize, work: &mut [u64])
     requires { work_per_node * (base + n) ≤ length work.old }
     ensures { work.new ≡ with_column mark_column base n (only_root n) work.old }
@@ -53,10 +51,7 @@ fn first_mark(i: usize, n: usize) -> u64
     requires { i < n }
     ensures { result ≡ only_root n i }
 {
-    if i + 1 == n {
-        return 1;
-    }
-    0
+    u64::from(i + 1 == n)
 }
 
 // One node's turn: where it is reached, its children are.
@@ -71,7 +66,7 @@ fn hand_on(nodes: &[u32], pool: &[u32], base: usize, p: usize, work: &mut [u64])
     if mark == 0 {
         return;
     }
-    let handed = handed_on(kind_of(nodes, p), mark);
+    let handed = handed_on(nodes, p, mark);
     lower_all(children_of(nodes, pool, p), handed, base, work);
 }
 
@@ -80,36 +75,33 @@ fn lower_all(children: &[u32], mark: u64, base: usize, work: &mut [u64])
     requires { (i : ℕ) → i < length children.now → place mark_column (base + get_or children.now i 0) < length work.old }
     ensures { work.new ≡ lowered base mark children.now work.old }
 {
-    for at in 0..children.len() {
-        let row = base + wide(children[at]);
+    for &child in children {
+        let row = base + wide(child);
         let own = get(work, MARK, row);
         put(work, MARK, row, nearer(mark, own));
     }
 }
 
 // "the least number of Cycle nodes over it": a Cycle node counts itself.
-fn handed_on(kind: u32, mark: u64) -> u64
-    requires { mark < 2 ^ 32 }
-    ensures { result ≡ cond (eqb kind cycle_word) (suc mark) mark }
+#[tactic(auto, using(meaning::proofs::Laws::KindLaws::same_cycle))]
+fn handed_on(nodes: &[u32], p: usize, mark: u64) -> u64
+    requires p_bound { p < node_count nodes.now }
+    requires mark_bound { mark < 2 ^ 32 }
+    ensures { result ≡ handed_on nodes.now p mark }
 {
-    if kind == CYCLE {
-        return mark + 1;
+    if kind_of(nodes, p) == Kind::Cycle {
+        mark + 1
+    } else {
+        mark
     }
-    mark
 }
 
 // The lower of two marks that is not 0.
 fn nearer(a: u64, b: u64) -> u64
     ensures { result ≡ reach.nearer a b }
 {
-    if a == 0 {
-        return b;
+    match (a, b) {
+        (0, mark) | (mark, 0) => mark,
+        _ => a.min(b),
     }
-    if b == 0 {
-        return a;
-    }
-    if a < b {
-        return a;
-    }
-    b
 }

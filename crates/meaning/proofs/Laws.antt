@@ -36,3 +36,5 @@ pub mod CanonicalLaws
 pub mod ComparisonLaws
 pub mod SeparationLaws
 pub mod KeptLaws
+-- what code answers is the whole answer of the rules
+pub mod ResultLaws

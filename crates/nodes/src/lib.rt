@@ -5,9 +5,10 @@
 #![tactic(auto)]
 
 ghost use Rattle.std.specs.Prelude.{◌≡◌, ◌+◌, ◌*◌, ◌^◌, ◌<◌};
+ghost use Rattle.meaning.specs.Rules.Kinds.{kind_of};
 ghost use Rattle.meaning.specs.Rules.Trees.{node_count, kind_at, first_at, count_at, datum_at};
 
-use meaning::kinds::{PROGRAM, VARIABLE};
+use meaning::kinds::{Kind, PROGRAM, VARIABLE};
 use meaning::limits::WORDS_PER_NODE;
 
 // a Program's halves have 32 bits each
@@ -27,8 +28,16 @@ pub fn node_count(nodes: &[u32]) -> usize
     nodes.len() / WORDS_PER_NODE
 }
 
-// Inner: the kind word of node i.
-pub fn kind_of(nodes: &[u32], i: usize) -> u32
+// Inner: the kind of node i.
+pub fn kind_of(nodes: &[u32], i: usize) -> Kind
+    requires { i < node_count nodes.now }
+    ensures { result ≡ kind_of (kind_at nodes.now i) }
+{
+    Kind::from(kind_word(nodes, i))
+}
+
+// Inner: its kind word, which tells the four registers apart.
+pub fn kind_word(nodes: &[u32], i: usize) -> u32
     requires { i < node_count nodes.now }
     ensures { result ≡ kind_at nodes.now i }
 {
@@ -56,7 +65,7 @@ pub fn datum_of(nodes: &[u32], i: usize) -> u64
     requires { i < node_count nodes.now }
     ensures { result ≡ datum_at nodes.now i }
 {
-    let kind = kind_of(nodes, i);
+    let kind = kind_word(nodes, i);
     if kind > VARIABLE {
         return 0;
     }

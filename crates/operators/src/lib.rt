@@ -24,21 +24,15 @@ pub const UNDRIVEN_BYTE: u8 = 2;
 pub fn and_of(x: Answer, y: Answer) -> Answer
     ensures { result ≡ and_of x y }
 {
-    match x {
-        Answer::Value { width, value: left } => match y {
-            Answer::Value { value: right, .. } => Answer::Value {
-                width: width,
-                value: left & right,
-            },
-            Answer::Failed(second) => zeros_or(width, left, second),
-        },
-        Answer::Failed(first) => match y {
+    match (x, y) {
+        (Answer::Value { width, value: left }, Answer::Value { value: right, .. }) =>
             Answer::Value {
                 width,
-                value: right,
-            } => zeros_or(width, right, first),
-            Answer::Failed(second) => x,
-        },
+                value: left & right,
+            },
+        (Answer::Value { width, value }, Answer::Failed(second)) => zeros_or(width, value, second),
+        (Answer::Failed(first), Answer::Value { width, value }) => zeros_or(width, value, first),
+        (Answer::Failed(_), Answer::Failed(_)) => x,
     }
 }
 
@@ -47,12 +41,10 @@ fn zeros_or(width: u32, value: u64, failure: Failure) -> Answer
     ensures { result ≡ zeros_or width value failure }
 {
     if value == 0 {
-        return Answer::Value {
-            width: width,
-            value: 0,
-        };
+        Answer::Value { width, value: 0 }
+    } else {
+        Answer::Failed(failure)
     }
-    Answer::Failed(failure)
 }
 
 // Inner: "Nor is the complement of or, and all ones absorb to zeros": the And of the complements (`not_or` of bits),
@@ -75,7 +67,7 @@ pub fn not_of(x: Answer) -> Answer
         return x;
     };
     Answer::Value {
-        width: width,
+        width,
         value: ones_of(width) - value,
     }
 }
@@ -91,7 +83,7 @@ pub fn xor_of(x: Answer, y: Answer) -> Answer
         return y;
     };
     Answer::Value {
-        width: width,
+        width,
         value: value ^ other,
     }
 }
@@ -101,10 +93,7 @@ pub fn xor_of(x: Answer, y: Answer) -> Answer
 pub fn arm_of(selector: u64) -> usize
     ensures { result ≡ cond (eqb selector 0) 2 1 }
 {
-    if selector == 0 {
-        return 2;
-    }
-    1
+    if selector == 0 { 2 } else { 1 }
 }
 
 // Inner: a Lut's answer, the bit of its program at the row that its operands' bits are. How wide the row is does not
@@ -142,10 +131,11 @@ pub fn driven_by(byte: u8) -> Answer
     ensures { result ≡ driven byte }
 {
     if byte < UNDRIVEN_BYTE {
-        return Answer::Value {
+        Answer::Value {
             width: 1,
             value: byte as u64,
-        };
+        }
+    } else {
+        Answer::Failed(Failure::Undriven)
     }
-    Answer::Failed(Failure::Undriven)
 }

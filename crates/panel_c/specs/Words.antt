@@ -1,14 +1,7 @@
 -- The words of an answer as the C interface lays them down (include/panel.h).
-use Rattle.std.specs.Prelude.{ℕ, ◌≡◌, List, [], ◌∷◌, cond, leb, eqb}
-use Rattle.meaning.specs.declared.Refusal.{Refusal}
+use Rattle.std.specs.Prelude.{ℕ, List, [], ◌∷◌, cond, leb, eqb}
 use Rattle.meaning.specs.Rules.Numbers.{bad_table}
 use Rattle.meaning.specs.Rules.Tables.{TableAnswer, eval_lut_const_input}
-use Rattle.table_words.specs.declared.Words.{Words}
-use Rattle.table_words.specs.Said.{Said}
-
--- ---- node lists: number, node
-abbrev pub refusal_words : Refusal → List ℕ
-refusal_words r = r.number ∷ r.node ∷ []
 
 -- ---- truth tables: number, and two words
 unfoldable pub table_words : TableAnswer → List ℕ
@@ -17,8 +10,3 @@ table_words a = a.number ∷ a.first ∷ a.second ∷ []
 -- the truth value is a number here: 0 or 1, and any other is out of range
 unfoldable pub const_input_words : ℕ → ℕ → ℕ → List ℕ
 const_input_words p msb v = cond (leb v 1) (table_words (eval_lut_const_input p msb (eqb v 1))) (bad_table ∷ 0 ∷ 0 ∷ [])
-
--- three words that say an answer are its words
-pub words_said : (w : Words) (a : TableAnswer) → Said w a → w.number ∷ w.first ∷ w.second ∷ [] ≡ table_words a
-unfolding table_words
-words_said w a h = rw (h.0, h.1, h.2)

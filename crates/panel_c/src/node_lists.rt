@@ -2,7 +2,7 @@
 ghost use Rattle.std.specs.Prelude.{◌≡◌};
 ghost use Rattle.meaning.specs.Rules.Calls.{verify, evaluate, compare};
 ghost use Rattle.meaning.specs.Rules.Calls as calls;
-ghost use Rattle.panel_c.specs.Words.{refusal_words};
+ghost use Rattle.result_words.specs.Words.{refusal_words};
 ghost use Rattle.comparison_words.specs.Words.{comparison_words};
 ghost use Rattle.separation_words.specs.Words.{separation_words};
 ghost use Rattle.canonical_words.specs.Words.{canonical_words};
@@ -10,23 +10,24 @@ ghost use Rattle.canonical_words.specs.Words.{canonical_words};
 use canonical_words::four_words;
 use canonicaliser::canonicalize_expr;
 use comparer::func_equiv;
-use comparison_words::ten_words;
 use evaluator::eval;
+use result_words::two_words;
 use separator::separate;
 use verifier::verify_expr;
 
 // `verify_expr`: number, node.
 #[unsafe(no_mangle)]
+#[tactic(auto, using(meaning::proofs::Laws::ResultLaws::verify_back))]
 pub extern "C" fn panel_verify(nodes: &[u32], pool: &[u32], work: &mut [u64], answer: &mut [u64; 2])
     ensures answer_after { answer.new ≡ refusal_words (verify nodes.now pool.now work.old).answer }
     ensures work_after { work.new ≡ (verify nodes.now pool.now work.old).work }
 {
-    let refusal = verify_expr(nodes, pool, work);
-    *answer = [refusal.number as u64, refusal.node as u64];
+    *answer = two_words(verify_expr(nodes, pool, work));
 }
 
 // `eval`: number, node. The root's answer is the last pair of the output.
 #[unsafe(no_mangle)]
+#[tactic(auto, using(meaning::proofs::Laws::ResultLaws::evaluate_back))]
 pub extern "C" fn panel_evaluate(
     nodes: &[u32],
     pool: &[u32],
@@ -39,13 +40,12 @@ pub extern "C" fn panel_evaluate(
     ensures work_after { work.new ≡ (evaluate nodes.now pool.now bytes.now work.old out.old).work }
     ensures out_after { out.new ≡ (evaluate nodes.now pool.now bytes.now work.old out.old).out }
 {
-    let evaluation = eval(nodes, pool, bytes, work, out);
-    let refusal = evaluation.refusal;
-    *answer = [refusal.number as u64, refusal.node as u64];
+    *answer = two_words(eval(nodes, pool, bytes, work, out));
 }
 
 // `func_equiv`: number, node, verdict, index, then state, width and value of the first root and of the second.
 #[unsafe(no_mangle)]
+#[tactic(auto, using(meaning::proofs::Laws::ResultLaws::compare_back))]
 pub extern "C" fn panel_compare(
     nodes: &[u32],
     pool: &[u32],
@@ -57,13 +57,13 @@ pub extern "C" fn panel_compare(
     ensures answer_after { answer.new ≡ comparison_words (compare nodes.now pool.now second_nodes.now second_pool.now work.old).answer }
     ensures work_after { work.new ≡ (compare nodes.now pool.now second_nodes.now second_pool.now work.old).work }
 {
-    let comparison = func_equiv(nodes, pool, second_nodes, second_pool, work);
-    *answer = ten_words(comparison);
+    *answer = comparison_words::ten_words(func_equiv(nodes, pool, second_nodes, second_pool, work));
 }
 
 // `separate`: number, node, judgement, index, then state, width and value of the root's answer there and of that with
 // the run bits cleared.
 #[unsafe(no_mangle)]
+#[tactic(auto, using(meaning::proofs::Laws::ResultLaws::separate_back))]
 pub extern "C" fn panel_separate(
     nodes: &[u32],
     pool: &[u32],
@@ -75,13 +75,13 @@ pub extern "C" fn panel_separate(
     ensures answer_after { answer.new ≡ separation_words (calls.separate nodes.now pool.now n marks work.old).answer }
     ensures work_after { work.new ≡ (calls.separate nodes.now pool.now n marks work.old).work }
 {
-    let separation = separate(nodes, pool, n, marks, work);
-    *answer = separation_words::ten_words(separation);
+    *answer = separation_words::ten_words(separate(nodes, pool, n, marks, work));
 }
 
 // `canonicalize_expr`: number, node, how many node words the canonical list has and how many pool entries. The list
 // stands at the start of the two output slices.
 #[unsafe(no_mangle)]
+#[tactic(auto, using(meaning::proofs::Laws::ResultLaws::canonical_back))]
 pub extern "C" fn panel_canonicalize(
     nodes: &[u32],
     pool: &[u32],
@@ -95,6 +95,5 @@ pub extern "C" fn panel_canonicalize(
     ensures out_nodes_after { out_nodes.new ≡ (calls.canonicalise nodes.now pool.now work.old out_nodes.old out_pool.old).out_nodes }
     ensures out_pool_after { out_pool.new ≡ (calls.canonicalise nodes.now pool.now work.old out_nodes.old out_pool.old).out_pool }
 {
-    let canonical = canonicalize_expr(nodes, pool, work, out_nodes, out_pool);
-    *answer = four_words(canonical);
+    *answer = four_words(canonicalize_expr(nodes, pool, work, out_nodes, out_pool));
 }

@@ -16,7 +16,7 @@ ghost use Rattle.pass.specs.Written.{with_pairs};
 
 use answer_words::words_of;
 use columns::{MARK, STATE, VALUE, get, put};
-use meaning::kinds::PROGRAM;
+use meaning::kinds::Kind;
 use nodes::{kind_of, node_count};
 use steps::answer_of;
 
@@ -35,8 +35,7 @@ pub fn pass(nodes: &[u32], pool: &[u32], bytes: &[u8], base: usize, work: &mut [
     requires { Prepared nodes.now pool.now base work.old }
     ensures { work.new ≡ with_pairs nodes.now pool.now (given bytes.now) base work.old }
 {
-    let n = node_count(nodes);
-    for i in 0..n {
+    for i in 0..node_count(nodes) {
         let pair = pair_of(nodes, pool, bytes, base, work, i);
         put(work, STATE, base + i, pair.state);
         put(work, VALUE, base + i, pair.value);
@@ -50,13 +49,7 @@ fn pair_of(nodes: &[u32], pool: &[u32], bytes: &[u8], base: usize, work: &[u64],
     ensures state_value { result.state ≡ state_at nodes.now pool.now (given bytes.now) n }
     ensures value_value { result.value ≡ value_at nodes.now pool.now (given bytes.now) n }
 {
-    if get(work, MARK, base + n) == 0 {
-        return Pair {
-            state: NO_ANSWER,
-            value: 0,
-        };
-    }
-    if kind_of(nodes, n) == PROGRAM {
+    if get(work, MARK, base + n) == 0 || kind_of(nodes, n) == Kind::Program {
         return Pair {
             state: NO_ANSWER,
             value: 0,

@@ -6,7 +6,8 @@
 #![tactic(auto)]
 
 ghost use Rattle.std.specs.Prelude.{◌≡◌};
-ghost use Rattle.meaning.specs.Rules.Kinds.{mux_word, lut_word, bus_word};
+ghost use Rattle.meaning.specs.declared.kinds.Kind.TheVariants.{Mux, Lut, Bus};
+ghost use Rattle.meaning.specs.Rules.Kinds.{kind_of};
 ghost use Rattle.meaning.specs.Rules.Trees.{kind_at, tree_of};
 ghost use Rattle.meaning.specs.Rules.Answers.{answer};
 ghost use Rattle.meaning.specs.Rules.Assignments.{given};
@@ -15,6 +16,7 @@ ghost use Rattle.accepted.specs.Nodes.{Logic};
 ghost use Rattle.accepted.specs.Operands.{TwoOperands};
 
 use accepted::{leaf_of, operand, program_of};
+use meaning::kinds::Kind;
 use meaning::{Answer, Failure};
 use nodes::{count_of, kind_of};
 use operators::{and_of, arm_of, bus_step, nor_of, not_of, row_bit, xor_of};
@@ -26,19 +28,17 @@ pub fn eval_rec(nodes: &[u32], pool: &[u32], bytes: &[u8], n: usize) -> Answer
     requires logic { Logic nodes.now pool.now n }
     ensures { result ≡ answer (given bytes.now) (tree_of nodes.now pool.now n) }
 {
-    let kind = kind_of(nodes, n);
-    match kind {
-        0..=3 => leaf_of(nodes, bytes, n),
-        4 => eval_gate(nodes, pool, bytes, n),
-        5 => eval_mux(nodes, pool, bytes, n),
-        6 => eval_gate(nodes, pool, bytes, n),
-        7 => eval_gate(nodes, pool, bytes, n),
-        8 => not_of(eval_rec(nodes, pool, bytes, operand(nodes, pool, n, 0))),
-        9 => eval_lut(nodes, pool, bytes, n),
-        10 => eval_bus(nodes, pool, bytes, n),
-        11..=14 => Answer::Failed(Failure::Register),
-        15 => Answer::Failed(Failure::Argument),
-        _ => eval_rec(nodes, pool, bytes, operand(nodes, pool, n, 0)),
+    match kind_of(nodes, n) {
+        Kind::Const | Kind::DC | Kind::Var => leaf_of(nodes, bytes, n),
+        Kind::Nor | Kind::And | Kind::Xor => eval_gate(nodes, pool, bytes, n),
+        Kind::Mux => eval_mux(nodes, pool, bytes, n),
+        Kind::Not => not_of(eval_rec(nodes, pool, bytes, operand(nodes, pool, n, 0))),
+        Kind::Lut => eval_lut(nodes, pool, bytes, n),
+        Kind::Bus => eval_bus(nodes, pool, bytes, n),
+        Kind::Reg => Answer::Failed(Failure::Register),
+        Kind::Arg => Answer::Failed(Failure::Argument),
+        Kind::Cycle => eval_rec(nodes, pool, bytes, operand(nodes, pool, n, 0)),
+        Kind::Program | Kind::Unknown => unreachable!(),
     }
 }
 
@@ -47,14 +47,14 @@ pub fn eval_rec(nodes: &[u32], pool: &[u32], bytes: &[u8], n: usize) -> Answer
 fn eval_gate(nodes: &[u32], pool: &[u32], bytes: &[u8], n: usize) -> Answer
     requires sound { Sound nodes.now pool.now }
     requires logic { Logic nodes.now pool.now n }
-    requires two_operands { TwoOperands (kind_at nodes.now n) }
+    requires two_operands { TwoOperands (kind_of (kind_at nodes.now n)) }
     ensures { result ≡ answer (given bytes.now) (tree_of nodes.now pool.now n) }
 {
     let x = eval_rec(nodes, pool, bytes, operand(nodes, pool, n, 0));
     let y = eval_rec(nodes, pool, bytes, operand(nodes, pool, n, 1));
     match kind_of(nodes, n) {
-        4 => nor_of(x, y),
-        6 => and_of(x, y),
+        Kind::Nor => nor_of(x, y),
+        Kind::And => and_of(x, y),
         _ => xor_of(x, y),
     }
 }
@@ -64,7 +64,7 @@ fn eval_gate(nodes: &[u32], pool: &[u32], bytes: &[u8], n: usize) -> Answer
 fn eval_mux(nodes: &[u32], pool: &[u32], bytes: &[u8], n: usize) -> Answer
     requires sound { Sound nodes.now pool.now }
     requires logic { Logic nodes.now pool.now n }
-    requires n_value { kind_at nodes.now n ≡ mux_word }
+    requires n_value { kind_of (kind_at nodes.now n) ≡ Mux }
     ensures { result ≡ answer (given bytes.now) (tree_of nodes.now pool.now n) }
 {
     let selector = eval_rec(nodes, pool, bytes, operand(nodes, pool, n, 0));
@@ -75,11 +75,12 @@ fn eval_mux(nodes: &[u32], pool: &[u32], bytes: &[u8], n: usize) -> Answer
 }
 
 // "Lut: the first operand is the most significant bit of the row number"; the first failing operand ends it.
+// Operands are read by their places here and below: `operand` says of a place that there is one, and what it has.
 #[cycle(eval)]
 fn eval_lut(nodes: &[u32], pool: &[u32], bytes: &[u8], n: usize) -> Answer
     requires sound { Sound nodes.now pool.now }
     requires logic { Logic nodes.now pool.now n }
-    requires n_value { kind_at nodes.now n ≡ lut_word }
+    requires n_value { kind_of (kind_at nodes.now n) ≡ Lut }
     ensures { result ≡ answer (given bytes.now) (tree_of nodes.now pool.now n) }
 {
     let count = count_of(nodes, n);
@@ -99,7 +100,7 @@ fn eval_lut(nodes: &[u32], pool: &[u32], bytes: &[u8], n: usize) -> Answer
 fn eval_bus(nodes: &[u32], pool: &[u32], bytes: &[u8], n: usize) -> Answer
     requires sound { Sound nodes.now pool.now }
     requires logic { Logic nodes.now pool.now n }
-    requires n_value { kind_at nodes.now n ≡ bus_word }
+    requires n_value { kind_of (kind_at nodes.now n) ≡ Bus }
     ensures { result ≡ answer (given bytes.now) (tree_of nodes.now pool.now n) }
 {
     let count = count_of(nodes, n);

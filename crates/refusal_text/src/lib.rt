@@ -14,7 +14,9 @@ pub fn write_refusal<W: Write>(out: &mut W, refusal: Refusal) -> io::Result<()> 
     let number = refusal.number;
     write!(out, "refused with {number}")?;
     write_node(out, refusal)?;
-    write_meaning(out, refusal.number)?;
+    if let Some(meaning) = meaning_of(number) {
+        write!(out, ": {meaning}")?;
+    }
     out.write_all(b"\n")
 }
 
@@ -28,59 +30,40 @@ fn write_node<W: Write>(out: &mut W, refusal: Refusal) -> io::Result<()> {
 }
 
 fn names_node(number: u32) -> bool {
-    match number {
-        numbers::UNKNOWN_KIND => true,
-        numbers::BAD_LAYOUT => true,
-        numbers::BAD_CHILD => true,
-        numbers::NOT_VERIFIED => true,
-        numbers::NOT_EVALUABLE => true,
-        numbers::WIDE_GATE => true,
-        _ => false,
-    }
+    matches!(
+        number,
+        numbers::UNKNOWN_KIND
+            | numbers::BAD_LAYOUT
+            | numbers::BAD_CHILD
+            | numbers::NOT_VERIFIED
+            | numbers::NOT_EVALUABLE
+            | numbers::WIDE_GATE
+    )
 }
 
-// What is wrong with a list: one arm for each of the numbers 1 to 8; the others are a call's.
-fn write_meaning<W: Write>(out: &mut W, number: u32) -> io::Result<()> {
-    match number {
-        numbers::NOT_ALIGNED => out.write_all(b": the node words do not make whole nodes"),
-        numbers::OVER_LIMIT => out.write_all(
-            b": the list has more nodes or pool entries than are allowed",
-        ),
-        numbers::UNKNOWN_KIND => out.write_all(b": there is no such kind"),
-        numbers::BAD_LAYOUT => out.write_all(
-            b": a field or child count breaks the layout, or its children run past the pool",
-        ),
-        numbers::BAD_CHILD => out.write_all(b": a child is not numbered below its node"),
-        numbers::NOT_VERIFIED => out.write_all(b": this node breaks a rule of verification"),
-        numbers::NO_ROOT => out.write_all(b": the list is empty, and a root is needed"),
-        numbers::NOT_EVALUABLE => out.write_all(
-            b": the list verifies, but this node can not be evaluated",
-        ),
-        _ => write_call_meaning(out, number),
-    }
-}
-
-// What is wrong with what else a call was given: numbers 9 to 14 and 19. 15 to 18 are kept free, and a number that is not in
-// the table has no meaning to write.
-fn write_call_meaning<W: Write>(out: &mut W, number: u32) -> io::Result<()> {
-    match number {
-        numbers::MANY_INPUTS => out.write_all(
-            b": the trees differ, and the first has too many variables to try",
-        ),
-        numbers::LITTLE_WORK => out.write_all(b": too little work space was lent"),
-        numbers::OUT_OF_BOUNDS => out.write_all(
-            b": too many variables are asked for, or a variable or a mark is past them",
-        ),
-        numbers::BAD_ASSIGNMENT => out.write_all(
-            b": an assignment is too long or has a byte above 2, or a series is not whole rows",
-        ),
-        numbers::BAD_TABLE => out.write_all(b": a truth-table argument is out of its range"),
-        numbers::WIDE_GATE => out.write_all(
-            b": this gate is not a bit, and can not become a lookup table",
-        ),
-        numbers::SHORT_OUTPUT => out.write_all(
-            b": the answer does not fit the output, or is a list over the limits",
-        ),
-        _ => Ok(()),
-    }
+// What is wrong with a list, numbers 1 to 8, or with what else a call was given, 9 to 14 and 19. 15 to 18 are kept free, and
+// a number that is not in the table has no meaning to write.
+fn meaning_of(number: u32) -> Option<&'static str> {
+    let meaning = match number {
+        numbers::NOT_ALIGNED => "the node words do not make whole nodes",
+        numbers::OVER_LIMIT => "the list has more nodes or pool entries than are allowed",
+        numbers::UNKNOWN_KIND => "there is no such kind",
+        numbers::BAD_LAYOUT =>
+            "a field or child count breaks the layout, or its children run past the pool",
+        numbers::BAD_CHILD => "a child is not numbered below its node",
+        numbers::NOT_VERIFIED => "this node breaks a rule of verification",
+        numbers::NO_ROOT => "the list is empty, and a root is needed",
+        numbers::NOT_EVALUABLE => "the list verifies, but this node can not be evaluated",
+        numbers::MANY_INPUTS => "the trees differ, and the first has too many variables to try",
+        numbers::LITTLE_WORK => "too little work space was lent",
+        numbers::OUT_OF_BOUNDS =>
+            "too many variables are asked for, or a variable or a mark is past them",
+        numbers::BAD_ASSIGNMENT =>
+            "an assignment is too long or has a byte above 2, or a series is not whole rows",
+        numbers::BAD_TABLE => "a truth-table argument is out of its range",
+        numbers::WIDE_GATE => "this gate is not a bit, and can not become a lookup table",
+        numbers::SHORT_OUTPUT => "the answer does not fit the output, or is a list over the limits",
+        _ => return None,
+    };
+    Some(meaning)
 }

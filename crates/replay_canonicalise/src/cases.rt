@@ -57,8 +57,5 @@ fn listed_of(number: u64, words: usize, entries: usize) -> Listed {
             entries: 0,
         };
     }
-    Listed {
-        words: words,
-        entries: entries,
-    }
+    Listed { words, entries }
 }

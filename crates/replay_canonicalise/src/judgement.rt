@@ -4,7 +4,7 @@ ghost use Rattle.std.specs.Prelude.{◌≡◌, ◌≤◌, false, IfOk, OnErr};
 ghost use Rattle.replay_canonicalise.specs.Judgement.{expected_words, seen_words, as_expected, differs};
 
 use canonical_words::four_words;
-use meaning::Canonical;
+use meaning::{Canonical, Refusal};
 use replay_report::{told_refusal, told_work};
 use replay_results::alike;
 use std::io;
@@ -31,52 +31,41 @@ pub(crate) struct Expected {
 // expected, and whether both outputs are untouched behind the list
 #[derive(Clone, Copy)]
 pub(crate) struct Seen {
-    pub(crate) canonical: Canonical,
+    pub(crate) canonical: Result<Canonical, Refusal>,
     pub(crate) verdict: u64,
     pub(crate) work: bool,
     pub(crate) behind: bool,
 }
 
-// Says so where the case differs, be it in what was seen or in the list that was written; the answer is 1 then, and
-// else 0. An error comes only of that: where the case differs.
+// Says so where the case differs, be it in what was seen or in the list that was written; the answer is whether
+// it does. An error comes only of that: where the case differs.
 pub(crate) fn judged(
     rt: &impl Print,
     case: u64,
     expected: Expected,
     seen: Seen,
     list: bool,
-) -> io::Result<u64>
-    ensures value { IfOk result (λ differ. differ ≡ differs expected seen list) }
-    ensures upper_bound { IfOk result (λ differ. differ ≤ 1) }
+) -> io::Result<bool>
+    ensures value { IfOk result (λ answer. answer ≡ differs expected seen list) }
     ensures err { OnErr result (as_expected expected seen list ≡ false) }
 {
     if is_expected(expected, seen, list) {
-        return Ok(0);
+        return Ok(false);
     }
     told(rt, case, seen, list)?;
-    Ok(1)
+    Ok(true)
 }
 
 fn is_expected(expected: Expected, seen: Seen, list: bool) -> bool
     ensures { result ≡ as_expected expected seen list }
 {
-    if !seen.work {
-        return false;
-    }
-    if !seen.behind {
-        return false;
-    }
-    if !list {
-        return false;
-    }
-    alike(&seen_words(seen), &expected_words(expected))
+    seen.work && seen.behind && list && alike(&seen_words(seen), &expected_words(expected))
 }
 
 fn seen_words(seen: Seen) -> [u64; 5]
     ensures { result ≡ seen_words seen }
 {
-    let canonical = seen.canonical;
-    let words = four_words(canonical);
+    let words = four_words(seen.canonical);
     [words[0], words[1], words[2], words[3], seen.verdict]
 }
 

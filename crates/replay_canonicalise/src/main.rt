@@ -9,7 +9,7 @@ mod judgement;
 mod verdicts;
 mod written;
 
-ghost use Rattle.std.specs.Prelude.{◌+◌, ◌≤◌, length, IfOk};
+ghost use Rattle.std.specs.Prelude.{◌+◌, ◌≤◌, length, IfOk, IfSome};
 ghost use Rattle.replay_canonicalise.specs.Cases.{Fits};
 ghost use Rattle.replay_canonicalise.specs.Outputs.{Markable};
 ghost use Rattle.replay_report.specs.Turns.{GetsOn};
@@ -17,15 +17,15 @@ ghost use Rattle.replay_report.specs.Turns.{GetsOn};
 use canonicaliser::canonicalize_expr;
 use case_rows::next_case_row;
 use cases::{ROW_WORDS, expected_of, largest};
-use decimals::Row;
+use decimals::Bad;
 use judgement::{Expected, Listed, Seen, judged};
-use lent_words::{fill, is_left, narrow};
-use list_room::{TEXT_ROOM, node_room, pool_room, text_room, work_room};
-use list_words::{Entries, next_list};
-use replay_report::{Tally, Turn, counted, goes_on, read_full, report, started, too_long};
+use lent_words::{fill, is_left};
+use list_room::{node_room, pool_room, work_room};
+use list_words::next_list;
+use replay_report::{Fault, Tried, run};
 use std::io;
-use verdicts::verdict_on;
-use written::{Written, next_written};
+use verdicts::verdict_of;
+use written::next_written;
 
 // ---- one case
 
@@ -33,8 +33,8 @@ use written::{Written, next_written};
 fn is_left_behind(listed: Listed, out_nodes: &[u32], out_pool: &[u32]) -> bool
     requires { Markable out_nodes.now out_pool.now }
 {
-    let nodes = narrow::is_left(out_nodes, listed.words);
-    let pool = narrow::is_left(out_pool, listed.entries);
+    let nodes = is_left(out_nodes, listed.words, false);
+    let pool = is_left(out_pool, listed.entries, false);
     nodes && pool
 }
 
@@ -42,11 +42,12 @@ fn fill_all(work: &mut [u64], out_nodes: &mut [u32], out_pool: &mut [u32])
     requires { Markable out_nodes.old out_pool.old }
 {
     fill(work);
-    narrow::fill(out_nodes);
-    narrow::fill(out_pool);
+    fill(out_nodes);
+    fill(out_pool);
 }
 
 // Calls with lent space that is filled, and looks at what is left of it and at what was written.
+#[tactic(auto, using(crate::specs::Verdicts::stands))]
 fn called(
     expected: Expected,
     nodes: &[u32],
@@ -60,15 +61,14 @@ fn called(
     fill_all(work, out_nodes, out_pool);
     let canonical = canonicalize_expr(nodes, pool, work, out_nodes, out_pool);
     Seen {
-        canonical: canonical,
-        verdict: verdict_on(
+        canonical,
+        verdict: verdict_of(
             expected.verdict,
             nodes,
             pool,
+            canonical,
             out_nodes,
-            canonical.nodes as usize,
             out_pool,
-            canonical.pool as usize,
         ),
         work: is_left(work, 0, expected.cleared),
         behind: is_left_behind(expected.listed, out_nodes, out_pool),
@@ -86,26 +86,20 @@ fn compared(
     seen: Seen,
     out_nodes: &[u32],
     out_pool: &[u32],
-) -> io::Result<Turn>
+) -> Result<Tried, Fault>
     requires { at ≤ length text.now }
     ensures { IfOk result (GetsOn (length text.now) at) }
 {
     let words = expected.listed.words;
     let entries = expected.listed.entries;
-    if words > out_nodes.len() {
-        return Ok(Turn::Malformed(at));
+    if words > out_nodes.len() || entries > out_pool.len() {
+        return Err(Fault::from(Bad { offset: at }));
     }
-    if entries > out_pool.len() {
-        return Ok(Turn::Malformed(at));
-    }
-    let reading = next_written(text, at, &out_nodes[..words], &out_pool[..entries]);
-    match reading {
-        Written::Read { next, same: list } => Ok(Turn::Tried {
-            next: next,
-            differ: judged(rt, number, expected, seen, list)?,
-        }),
-        Written::Bad(offset) => Ok(Turn::Malformed(offset)),
-    }
+    let (next, list) = next_written(text, at, &out_nodes[..words], &out_pool[..entries])?;
+    Ok(Tried {
+        next,
+        differs: judged(rt, number, expected, seen, list)?,
+    })
 }
 
 fn tried_in(
@@ -119,7 +113,7 @@ fn tried_in(
     work: &mut [u64],
     out_nodes: &mut [u32],
     out_pool: &mut [u32],
-) -> io::Result<Turn>
+) -> Result<Tried, Fault>
     requires at_in_bounds { at ≤ length text.now }
     requires markable { Markable out_nodes.old out_pool.old }
     ensures { IfOk result (GetsOn (length text.now) at) }
@@ -137,7 +131,7 @@ fn with_space(
     at: usize,
     nodes: &[u32],
     pool: &[u32],
-) -> io::Result<Turn>
+) -> Result<Tried, Fault>
     requires at_in_bounds { at ≤ length text.now }
     requires fits { Fits row.now }
     ensures { IfOk result (GetsOn (length text.now) at) }
@@ -171,16 +165,13 @@ fn tried(
     at: usize,
     nodes: &mut [u32],
     pool: &mut [u32],
-) -> io::Result<Turn>
+) -> Result<Tried, Fault>
     requires at_in_bounds { at ≤ length text.now }
     requires fits { Fits row.now }
     ensures { IfOk result (GetsOn (length text.now) at) }
 {
-    let reading = next_list(text, at, nodes, pool);
-    match reading {
-        Entries::Whole(next) => with_space(rt, number, row, text, next, nodes, pool),
-        Entries::Bad(offset) => Ok(Turn::Malformed(offset)),
-    }
+    let next = next_list(text, at, nodes, pool)?;
+    with_space(rt, number, row, text, next, nodes, pool)
 }
 
 // Node words and pool entries as many as the case has.
@@ -190,7 +181,7 @@ fn in_room(
     row: &[u64; ROW_WORDS],
     text: &[u8],
     at: usize,
-) -> io::Result<Turn>
+) -> Result<Tried, Fault>
     requires at_in_bounds { at ≤ length text.now }
     requires fits { Fits row.now }
     ensures { IfOk result (GetsOn (length text.now) at) }
@@ -210,42 +201,22 @@ fn in_room(
     )
 }
 
-fn next_case(rt: &impl Print, number: u64, text: &[u8], at: usize) -> io::Result<Turn>
-    ensures { IfOk result (GetsOn (length text.now) (at + 1)) }
+fn next_case(rt: &impl Print, number: u64, text: &[u8], at: usize) -> Result<Option<Tried>, Fault>
+    ensures { IfOk result (λ case. IfSome case (GetsOn (length text.now) (at + 1))) }
 {
-    let largest = largest();
     let mut row = [0u64; ROW_WORDS];
-    let reading = next_case_row(text, at, &mut row, &largest);
-    match reading {
-        Row::Whole(next) => in_room(rt, number, &row, text, next),
-        Row::End => Ok(Turn::End),
-        Row::Bad(offset) => Ok(Turn::Malformed(offset)),
-    }
+    let Some(next) = next_case_row(text, at, &mut row, &largest())? else {
+        return Ok(None);
+    };
+    Ok(Some(in_room(rt, number, &row, text, next)?))
 }
 
-// ---- all cases
-
-// Cases are numbered from 1.
-fn replay(rt: &impl Print, text: &[u8]) -> io::Result<Tally> {
-    let mut tally = started();
-    while goes_on(tally) {
-        tally = counted(tally, next_case(rt, tally.cases + 1, text, tally.at)?);
-    }
-    Ok(tally)
-}
-
-// An input that fills the whole room may go on behind it, and is not replayed in part. The stack must hold the text and
-// the room for a case, some five megabytes together.
+// The stack must hold the text and the room for a case, some five megabytes together.
 fn main(rt: HostRuntime) -> io::Result<()> {
-    let mut text = text_room();
-    let mut input = rt.stdin();
-    let n = read_full(&mut input, &mut text)?;
-    if n == TEXT_ROOM {
-        return too_long(&rt, n);
-    }
-    report(
+    run(
         &rt,
-        replay(&rt, &text[..n])?,
+        &mut rt.stdin(),
         b"replay_canonicalise < FILE, with cases of decimal words as vectors/canonicalise.py makes them",
+        |number, text, at| next_case(&rt, number, text, at),
     )
 }

@@ -1,52 +1,36 @@
 // The canonical list that a case expects, compared as it is read with the one that was written.
-ghost use Rattle.std.specs.Prelude.{◌≤◌, length};
+ghost use Rattle.std.specs.Prelude.{◌≤◌, length, IfOk};
 ghost use Rattle.replay_canonicalise.specs.Written.{ReadOn};
 
-use list_words::{Entry, next_entry};
+use decimals::Bad;
+use list_words::next_entry;
 
-// As many words as were written, with the offset behind the last and whether all are the same; or the offset of what is
-// no word of 32 bits, which is that of the text's end where it comes too soon.
-#[derive(Clone, Copy)]
-pub(crate) enum Written {
-    Read { next: usize, same: bool },
-    Bad(usize),
-}
-
-// The node words, and behind them the pool entries
-pub(crate) fn next_written(text: &[u8], at: usize, nodes: &[u32], pool: &[u32]) -> Written
+// The node words, and behind them the pool entries: as many as were written. The answer is the offset behind the last, and
+// whether all are the same.
+pub(crate) fn next_written(
+    text: &[u8],
+    at: usize,
+    nodes: &[u32],
+    pool: &[u32],
+) -> Result<(usize, bool), Bad>
     requires { at ≤ length text.now }
-    ensures { ReadOn (length text.now) at result }
+    ensures { IfOk result (λ read. ReadOn (length text.now) at read.0) }
 {
-    let reading = next_words(text, at, true, nodes);
-    match reading {
-        Written::Read { next, same } => next_words(text, next, same, pool),
-        Written::Bad(offset) => Written::Bad(offset),
-    }
+    let (behind, same_nodes) = next_words(text, at, nodes)?;
+    let (next, same_pool) = next_words(text, behind, pool)?;
+    Ok((next, same_nodes && same_pool))
 }
 
-// `before` says whether all words before these were the same.
-fn next_words(text: &[u8], at: usize, before: bool, written: &[u32]) -> Written
+fn next_words(text: &[u8], at: usize, written: &[u32]) -> Result<(usize, bool), Bad>
     requires { at ≤ length text.now }
-    ensures { ReadOn (length text.now) at result }
+    ensures { IfOk result (λ read. ReadOn (length text.now) at read.0) }
 {
     let mut next = at;
-    let mut same = before;
-    for place in 0..written.len() {
-        let entry = next_entry(text, next);
-        match entry {
-            Entry::Value { value, next: after } => {
-                same = still(same, value, written[place]);
-                next = after;
-            }
-            Entry::Bad(offset) => return Written::Bad(offset),
-        }
+    let mut same = true;
+    for expected in written {
+        let word = next_entry(text, next)?;
+        same &= word.value == *expected;
+        next = word.next;
     }
-    Written::Read {
-        next: next,
-        same: same,
-    }
-}
-
-fn still(same: bool, expected: u32, written: u32) -> bool {
-    same && expected == written
+    Ok((next, same))
 }

@@ -6,7 +6,7 @@
 mod cases;
 mod two_lists;
 
-ghost use Rattle.std.specs.Prelude.{◌+◌, ◌≤◌, length, IfOk};
+ghost use Rattle.std.specs.Prelude.{◌+◌, ◌≤◌, length, IfOk, IfSome};
 ghost use Rattle.replay_compare.specs.Cases.{Fits};
 ghost use Rattle.replay_report.specs.Turns.{GetsOn};
 
@@ -14,19 +14,17 @@ use case_rows::next_case_row;
 use cases::largest;
 use comparer::func_equiv;
 use comparison_words::ten_words;
-use decimals::Row;
 use lent_words::{fill, is_left};
-use list_room::{TEXT_ROOM, node_room, pair_work_room, pool_room, text_room};
-use list_words::Entries;
-use replay_report::{Tally, Turn, counted, goes_on, read_full, report, started, too_long};
+use list_room::{node_room, pair_work_room, pool_room};
+use replay_report::{Fault, Tried, run};
 use replay_results::{Expected, ROW_WORDS, expected_of, judged};
 use std::io;
 use two_lists::next_lists;
 
 // ---- one case
 
-// Calls with work space that is filled, and looks at what is left of it. The answer is 1 where the case differs, and
-// else 0.
+// Calls with work space that is filled, and looks at what is left of it. The answer is whether the case
+// differs.
 fn called(
     rt: &impl Print,
     number: u64,
@@ -36,9 +34,7 @@ fn called(
     second_nodes: &[u32],
     second_pool: &[u32],
     work: &mut [u64],
-) -> io::Result<u64>
-    ensures { IfOk result (λ differ. differ ≤ 1) }
-{
+) -> io::Result<bool> {
     fill(work);
     let given = func_equiv(nodes, pool, second_nodes, second_pool, work);
     let left = is_left(work, 0, expected.cleared);
@@ -54,9 +50,8 @@ fn with_space(
     pool: &[u32],
     second_nodes: &[u32],
     second_pool: &[u32],
-) -> io::Result<u64>
+) -> io::Result<bool>
     requires { Fits row.now }
-    ensures { IfOk result (λ differ. differ ≤ 1) }
 {
     let mut work = pair_work_room();
     let words = row[4] as usize;
@@ -83,19 +78,16 @@ fn tried(
     pool: &mut [u32],
     second_nodes: &mut [u32],
     second_pool: &mut [u32],
-) -> io::Result<Turn>
+) -> Result<Tried, Fault>
     requires at_in_bounds { at ≤ length text.now }
     requires fits { Fits row.now }
     ensures { IfOk result (GetsOn (length text.now) at) }
 {
-    let reading = next_lists(text, at, nodes, pool, second_nodes, second_pool);
-    match reading {
-        Entries::Whole(next) => Ok(Turn::Tried {
-            next: next,
-            differ: with_space(rt, number, row, nodes, pool, second_nodes, second_pool)?,
-        }),
-        Entries::Bad(offset) => Ok(Turn::Malformed(offset)),
-    }
+    let next = next_lists(text, at, nodes, pool, second_nodes, second_pool)?;
+    Ok(Tried {
+        next,
+        differs: with_space(rt, number, row, nodes, pool, second_nodes, second_pool)?,
+    })
 }
 
 // Node words and pool entries as many as the case has.
@@ -105,7 +97,7 @@ fn in_room(
     row: &[u64; ROW_WORDS],
     text: &[u8],
     at: usize,
-) -> io::Result<Turn>
+) -> Result<Tried, Fault>
     requires at_in_bounds { at ≤ length text.now }
     requires fits { Fits row.now }
     ensures { IfOk result (GetsOn (length text.now) at) }
@@ -131,42 +123,22 @@ fn in_room(
     )
 }
 
-fn next_case(rt: &impl Print, number: u64, text: &[u8], at: usize) -> io::Result<Turn>
-    ensures { IfOk result (GetsOn (length text.now) (at + 1)) }
+fn next_case(rt: &impl Print, number: u64, text: &[u8], at: usize) -> Result<Option<Tried>, Fault>
+    ensures { IfOk result (λ case. IfSome case (GetsOn (length text.now) (at + 1))) }
 {
-    let largest = largest();
     let mut row = [0u64; ROW_WORDS];
-    let reading = next_case_row(text, at, &mut row, &largest);
-    match reading {
-        Row::Whole(next) => in_room(rt, number, &row, text, next),
-        Row::End => Ok(Turn::End),
-        Row::Bad(offset) => Ok(Turn::Malformed(offset)),
-    }
+    let Some(next) = next_case_row(text, at, &mut row, &largest())? else {
+        return Ok(None);
+    };
+    Ok(Some(in_room(rt, number, &row, text, next)?))
 }
 
-// ---- all cases
-
-// Cases are numbered from 1.
-fn replay(rt: &impl Print, text: &[u8]) -> io::Result<Tally> {
-    let mut tally = started();
-    while goes_on(tally) {
-        tally = counted(tally, next_case(rt, tally.cases + 1, text, tally.at)?);
-    }
-    Ok(tally)
-}
-
-// An input that fills the whole room may go on behind it, and is not replayed in part. The stack must hold the text and
-// the room for a case, some four megabytes together.
+// The stack must hold the text and the room for a case, some four megabytes together.
 fn main(rt: HostRuntime) -> io::Result<()> {
-    let mut text = text_room();
-    let mut input = rt.stdin();
-    let n = read_full(&mut input, &mut text)?;
-    if n == TEXT_ROOM {
-        return too_long(&rt, n);
-    }
-    report(
+    run(
         &rt,
-        replay(&rt, &text[..n])?,
+        &mut rt.stdin(),
         b"replay_compare < FILE, with cases of decimal words as vectors/compare.py makes them",
+        |number, text, at| next_case(&rt, number, text, at),
     )
 }

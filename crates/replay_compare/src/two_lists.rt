@@ -1,10 +1,11 @@
 // The two lists of a case, as they stand behind its row: the second behind the first.
-ghost use Rattle.std.specs.Prelude.{◌≤◌, length};
+ghost use Rattle.std.specs.Prelude.{◌≤◌, length, IfOk};
 ghost use Rattle.replay_compare.specs.Lists.{Reaches};
 
-use list_words::{Entries, next_list};
+use decimals::Bad;
+use list_words::next_list;
 
-// The lent places are scratch where the answer is Bad.
+// The lent places are scratch where there is a fault.
 pub(crate) fn next_lists(
     text: &[u8],
     at: usize,
@@ -12,13 +13,10 @@ pub(crate) fn next_lists(
     pool: &mut [u32],
     second_nodes: &mut [u32],
     second_pool: &mut [u32],
-) -> Entries
+) -> Result<usize, Bad>
     requires { at ≤ length text.now }
-    ensures { Reaches (length text.now) at result }
+    ensures { IfOk result (Reaches (length text.now) at) }
 {
-    let reading = next_list(text, at, nodes, pool);
-    match reading {
-        Entries::Whole(next) => next_list(text, next, second_nodes, second_pool),
-        Entries::Bad(offset) => Entries::Bad(offset),
-    }
+    let next = next_list(text, at, nodes, pool)?;
+    next_list(text, next, second_nodes, second_pool)
 }

@@ -8,33 +8,30 @@ mod inputs;
 mod pairs;
 mod room;
 
-ghost use Rattle.std.specs.Prelude.{◌+◌, ◌≤◌, length, IfOk};
+ghost use Rattle.std.specs.Prelude.{◌+◌, ◌≤◌, length, IfOk, IfSome};
 ghost use Rattle.replay_evaluate.specs.Cases.{Fits};
 ghost use Rattle.replay_report.specs.Turns.{GetsOn};
 
 use answer_words::{Words, same, words_of};
 use case_rows::next_case_row;
 use cases::{Expected, ROW_WORDS, expected_of, largest};
-use decimals::Row;
+use comparisons::blank;
+use decimals::Bad;
 use evaluator::eval;
 use inputs::next_inputs;
 use lent_words::{fill, is_left};
-use list_room::{TEXT_ROOM, node_room, pool_room, text_room, work_room};
-use list_words::Entries;
-use meaning::Refusal;
-use pairs::{Pairs, next_pairs};
-use replay_report::{
-    Tally, Turn, counted, goes_on, read_full, report, started, told_answer, told_refusal,
-    told_work, too_long,
-};
-use room::{byte_room, out_room};
+use list_room::{node_room, pool_room, work_room};
+use pairs::next_pairs;
+use replay_report::{Fault, Tried, run, told_answer, told_refusal, told_work};
+use result_words::two_words;
+use room::{BYTE_ROOM, OUT_ROOM};
 use std::io;
 
-// What is seen of a call: its refusal, the root's answer, whether the work space is as expected, and whether the output
+// What is seen of a call: its refusal's number and node, the root's answer, whether the work space is as expected, and whether the output
 // behind the pairs is untouched
 #[derive(Clone, Copy)]
 struct Seen {
-    refusal: Refusal,
+    refusal: [u64; 2],
     root: Words,
     work: bool,
     behind: bool,
@@ -43,12 +40,7 @@ struct Seen {
 // ---- one case
 
 fn told(rt: &impl Print, number: u64, seen: Seen, pairs: bool) -> io::Result<()> {
-    told_refusal(
-        rt,
-        number,
-        seen.refusal.number as u64,
-        seen.refusal.node as u64,
-    )?;
+    told_refusal(rt, number, seen.refusal[0], seen.refusal[1])?;
     told_answer(rt, seen.root.state, seen.root.width, seen.root.value)?;
     told_work(rt, seen.work)?;
     if !pairs {
@@ -60,30 +52,24 @@ fn told(rt: &impl Print, number: u64, seen: Seen, pairs: bool) -> io::Result<()>
     println!(rt;)
 }
 
-fn is_refusal(given: Refusal, expected: Expected) -> bool {
-    given.number as u64 == expected.number && given.node as u64 == expected.node
-}
-
-// Says so where the case differs, be it in what was seen or in the pairs; the answer is 1 then, and else 0.
+// Says so where the case differs, be it in what was seen or in the pairs; the answer is whether it does.
 fn judged(
     rt: &impl Print,
     number: u64,
     expected: Expected,
     seen: Seen,
     pairs: bool,
-) -> io::Result<u64>
-    ensures { IfOk result (λ differ. differ ≤ 1) }
-{
-    if is_refusal(seen.refusal, expected)
+) -> io::Result<bool> {
+    if seen.refusal == [expected.number, expected.node]
         && same(seen.root, expected.root)
         && seen.work
         && seen.behind
         && pairs
     {
-        return Ok(0);
+        return Ok(false);
     }
     told(rt, number, seen, pairs)?;
-    Ok(1)
+    Ok(true)
 }
 
 // Reads the pairs that are expected, and judges the case. One whose pairs have no place in its output is a fault of the
@@ -96,22 +82,19 @@ fn compared(
     at: usize,
     seen: Seen,
     out: &[u64],
-) -> io::Result<Turn>
+) -> Result<Tried, Fault>
     requires { at ≤ length text.now }
     ensures { IfOk result (GetsOn (length text.now) at) }
 {
     let count = expected.pairs;
     if count > out.len() {
-        return Ok(Turn::Malformed(at));
+        return Err(Fault::from(Bad { offset: at }));
     }
-    let reading = next_pairs(text, at, &out[..count]);
-    match reading {
-        Pairs::Read { next, same: pairs } => Ok(Turn::Tried {
-            next: next,
-            differ: judged(rt, number, expected, seen, pairs)?,
-        }),
-        Pairs::Bad(offset) => Ok(Turn::Malformed(offset)),
-    }
+    let (next, pairs) = next_pairs(text, at, &out[..count])?;
+    Ok(Tried {
+        next,
+        differs: judged(rt, number, expected, seen, pairs)?,
+    })
 }
 
 // Calls with lent space that is filled, and looks at what is left of it.
@@ -126,18 +109,16 @@ fn called(
     bytes: &[u8],
     work: &mut [u64],
     out: &mut [u64],
-) -> io::Result<Turn>
+) -> Result<Tried, Fault>
     requires { at ≤ length text.now }
     ensures { IfOk result (GetsOn (length text.now) at) }
 {
     fill(work);
     fill(out);
     let given = eval(nodes, pool, bytes, work, out);
-    let refusal = given.refusal;
-    let answer = given.answer;
     let seen = Seen {
-        refusal: refusal,
-        root: words_of(answer),
+        refusal: two_words(given),
+        root: words_of(given.unwrap_or(blank())),
         work: is_left(work, 0, expected.cleared),
         behind: is_left(out, expected.pairs, false),
     };
@@ -154,13 +135,13 @@ fn with_space(
     nodes: &[u32],
     pool: &[u32],
     bytes: &[u8],
-) -> io::Result<Turn>
+) -> Result<Tried, Fault>
     requires at_in_bounds { at ≤ length text.now }
     requires fits { Fits row.now }
     ensures { IfOk result (GetsOn (length text.now) at) }
 {
     let mut work = work_room();
-    let mut out = out_room();
+    let mut out = list_room::room::<u64, OUT_ROOM>(0);
     let words = row[3] as usize;
     let places = row[4] as usize;
     called(
@@ -187,16 +168,13 @@ fn tried(
     nodes: &mut [u32],
     pool: &mut [u32],
     bytes: &mut [u8],
-) -> io::Result<Turn>
+) -> Result<Tried, Fault>
     requires at_in_bounds { at ≤ length text.now }
     requires fits { Fits row.now }
     ensures { IfOk result (GetsOn (length text.now) at) }
 {
-    let reading = next_inputs(text, at, nodes, pool, bytes);
-    match reading {
-        Entries::Whole(next) => with_space(rt, number, row, text, next, nodes, pool, bytes),
-        Entries::Bad(offset) => Ok(Turn::Malformed(offset)),
-    }
+    let next = next_inputs(text, at, nodes, pool, bytes)?;
+    with_space(rt, number, row, text, next, nodes, pool, bytes)
 }
 
 // Node words, pool entries and bytes as many as the case has.
@@ -206,14 +184,14 @@ fn in_room(
     row: &[u64; ROW_WORDS],
     text: &[u8],
     at: usize,
-) -> io::Result<Turn>
+) -> Result<Tried, Fault>
     requires at_in_bounds { at ≤ length text.now }
     requires fits { Fits row.now }
     ensures { IfOk result (GetsOn (length text.now) at) }
 {
     let mut nodes = node_room();
     let mut pool = pool_room();
-    let mut bytes = byte_room();
+    let mut bytes = list_room::room::<u8, BYTE_ROOM>(0);
     let words = row[0] as usize;
     let entries = row[1] as usize;
     let count = row[2] as usize;
@@ -229,42 +207,22 @@ fn in_room(
     )
 }
 
-fn next_case(rt: &impl Print, number: u64, text: &[u8], at: usize) -> io::Result<Turn>
-    ensures { IfOk result (GetsOn (length text.now) (at + 1)) }
+fn next_case(rt: &impl Print, number: u64, text: &[u8], at: usize) -> Result<Option<Tried>, Fault>
+    ensures { IfOk result (λ case. IfSome case (GetsOn (length text.now) (at + 1))) }
 {
-    let largest = largest();
     let mut row = [0u64; ROW_WORDS];
-    let reading = next_case_row(text, at, &mut row, &largest);
-    match reading {
-        Row::Whole(next) => in_room(rt, number, &row, text, next),
-        Row::End => Ok(Turn::End),
-        Row::Bad(offset) => Ok(Turn::Malformed(offset)),
-    }
+    let Some(next) = next_case_row(text, at, &mut row, &largest())? else {
+        return Ok(None);
+    };
+    Ok(Some(in_room(rt, number, &row, text, next)?))
 }
 
-// ---- all cases
-
-// Cases are numbered from 1.
-fn replay(rt: &impl Print, text: &[u8]) -> io::Result<Tally> {
-    let mut tally = started();
-    while goes_on(tally) {
-        tally = counted(tally, next_case(rt, tally.cases + 1, text, tally.at)?);
-    }
-    Ok(tally)
-}
-
-// An input that fills the whole room may go on behind it, and is not replayed in part. The stack must hold the text and
-// the room for a case, some three megabytes together.
+// The stack must hold the text and the room for a case, some three megabytes together.
 fn main(rt: HostRuntime) -> io::Result<()> {
-    let mut text = text_room();
-    let mut input = rt.stdin();
-    let n = read_full(&mut input, &mut text)?;
-    if n == TEXT_ROOM {
-        return too_long(&rt, n);
-    }
-    report(
+    run(
         &rt,
-        replay(&rt, &text[..n])?,
+        &mut rt.stdin(),
         b"replay_evaluate < FILE, with cases of decimal words as vectors/evaluate.py makes them",
+        |number, text, at| next_case(&rt, number, text, at),
     )
 }

@@ -1,41 +1,24 @@
 // The pairs that a case expects (document 01, "Answers of a node": "Node by node, the evaluator writes state and value into
 // lent u64 pairs"), compared as they are read with those that were written.
-ghost use Rattle.std.specs.Prelude.{◌≤◌, length};
-ghost use Rattle.replay_evaluate.specs.Pairs.{ReadOn};
+ghost use Rattle.std.specs.Prelude.{◌≤◌, length, IfOk};
+ghost use Rattle.replay_evaluate.specs.Inputs.{Reaches};
 
-use decimals::{Word, next_word};
+use decimals::{Bad, next_word};
 
-// As many words as were written, with the offset behind the last and whether all are the same; or the offset of what is no
-// word, which is that of the text's end where it comes too soon.
-#[derive(Clone, Copy)]
-pub(crate) enum Pairs {
-    Read { next: usize, same: bool },
-    Bad(usize),
-}
-
-pub(crate) fn next_pairs(text: &[u8], at: usize, written: &[u64]) -> Pairs
+// As many words as were written: the offset behind the last, and whether all are the same. A word is owed, so the text's end
+// is bad.
+pub(crate) fn next_pairs(text: &[u8], at: usize, written: &[u64]) -> Result<(usize, bool), Bad>
     requires { at ≤ length text.now }
-    ensures { ReadOn (length text.now) at result }
+    ensures { IfOk result (λ read. Reaches (length text.now) at read.0) }
 {
     let mut next = at;
     let mut same = true;
-    for place in 0..written.len() {
-        let word = next_word(text, next);
-        match word {
-            Word::Value { value, next: after } => {
-                same = still(same, value, written[place]);
-                next = after;
-            }
-            Word::End => return Pairs::Bad(text.len()),
-            Word::Bad(offset) => return Pairs::Bad(offset),
-        }
+    for expected in written {
+        let Some(word) = next_word(text, next)? else {
+            return Err(Bad { offset: text.len() });
+        };
+        same &= word.value == *expected;
+        next = word.next;
     }
-    Pairs::Read {
-        next: next,
-        same: same,
-    }
-}
-
-fn still(same: bool, expected: u64, written: u64) -> bool {
-    same && expected == written
+    Ok((next, same))
 }

@@ -1,73 +1,37 @@
-// What a replay's loop carries from case to case, so that each replay is `while goes_on(..)` over its own cases: the
-// offset of the next case, how many cases there were and how many of them differ, and whether there may be more. The
-// plain meaning is specs/Tallies.antt.
-ghost use Rattle.std.specs.Prelude.{◌≡◌};
-ghost use Rattle.replay_report.specs.Tallies as tallies;
+// All turns of a replay: the cases of a text one behind the other, counted. The plain meaning is specs/Tallies.antt.
+ghost use Rattle.std.specs.Prelude.{◌≡◌, ℕ, ◌+◌, ◌^◌, ◌<◌, List, length, IfOk, IfSome};
+ghost use Rattle.replay_report.specs.Turns.{GetsOn};
+ghost use Rattle.replay_report.specs.Tallies.{OverText, Replayed, started};
 
-use super::turn::Turn;
+use super::turn::{Fault, Tried};
 
-// There may be a case more; the text has ended; or the offset of a fault.
-#[derive(Clone, Copy)]
-pub enum Stage {
-    Going,
-    Ended,
-    Faulty(usize),
-}
-
+// How many cases there were, and how many of them differ
 #[derive(Clone, Copy)]
 pub struct Tally {
-    pub at: usize,
     pub cases: u64,
     pub differ: u64,
-    pub stage: Stage,
 }
 
-pub fn started() -> Tally
-    ensures { result ≡ tallies.started }
+// Tries case after case, each where the one before it ended, until a turn finds none or fails. Cases are numbered from 1,
+// so that a case's number is its line's in a text of one case to a line. The turn gets on in the text, so they end.
+pub fn replay<F: Fn(u64, &[u8], usize) -> Result<Option<Tried>, Fault>>(
+    text: &[u8],
+    turn: F,
+) -> Result<Tally, Fault>
+    requires callable { F.IsAlwaysCallable turn }
+    requires gets_on { (number at : ℕ) (t : _) (r : _) → number < 2 ^ 64 → at < 2 ^ 64 → F.post turn number t at r
+        → IfOk r (λ case. IfSome case (GetsOn (length t.now) (at + 1))) }
+    ensures { (cases : List Tried) × Replayed (OverText (F.post turn) text.now) cases 0 started result }
 {
-    Tally {
-        at: 0,
+    let mut at = 0;
+    let mut tally = Tally {
         cases: 0,
         differ: 0,
-        stage: Stage::Going,
+    };
+    while let Some(tried) = turn(tally.cases + 1, text, at)? {
+        tally.cases += 1;
+        tally.differ += u64::from(tried.differs);
+        at = tried.next;
     }
-}
-
-pub fn goes_on(tally: Tally) -> bool
-    ensures { result ≡ tallies.goes_on tally }
-{
-    let stage = tally.stage;
-    match stage {
-        Stage::Going => true,
-        Stage::Ended => false,
-        Stage::Faulty(offset) => false,
-    }
-}
-
-// Inner: the tally after one more turn. The caller shows that neither count wraps.
-pub fn counted(tally: Tally, turn: Turn) -> Tally
-    requires { tallies.Countable tally turn }
-    ensures { result ≡ tallies.counted tally turn }
-{
-    match turn {
-        Turn::Tried { next, differ } => Tally {
-            at: next,
-            cases: tally.cases + 1,
-            differ: tally.differ + differ,
-            stage: Stage::Going,
-        },
-        Turn::End => stopped(tally, Stage::Ended),
-        Turn::Malformed(offset) => stopped(tally, Stage::Faulty(offset)),
-    }
-}
-
-fn stopped(tally: Tally, stage: Stage) -> Tally
-    ensures { result ≡ tallies.stopped tally stage }
-{
-    Tally {
-        at: tally.at,
-        cases: tally.cases,
-        differ: tally.differ,
-        stage: stage,
-    }
+    Ok(tally)
 }

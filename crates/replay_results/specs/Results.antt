@@ -1,5 +1,5 @@
 -- What a case expects of a call that answers ten words, and whether what was seen differs.
-use Rattle.std.specs.Prelude.{ℕ, Bool, cond, ◌&&◌, ◌≡◌, List, [], ◌∷◌, eqb, get_or}
+use Rattle.std.specs.Prelude.{ℕ, Bool, not, ◌&&◌, ◌≡◌, List, [], ◌∷◌, eqb, get_or}
 use Rattle.std.proofs.Common.{sym, ◌∙◌}
 use Rattle.replay_results.specs.declared.Expected.{Expected}
 use Rattle.replay_results.specs.Alike.{alike}
@@ -30,14 +30,14 @@ expected_words e =
 abbrev pub as_expected : Expected → List ℕ → Bool → Bool
 as_expected e words work = work && alike words (expected_words e)
 
--- 1 where a case differs, and else 0
-abbrev pub differs : Expected → List ℕ → Bool → ℕ
-differs e words work = cond (as_expected e words work) 0 1
+-- whether a case differs
+abbrev pub differs : Expected → List ℕ → Bool → Bool
+differs e words work = not (as_expected e words work)
 
 -- no second outcome
 pub expected_only : (row : List ℕ) {e e' : Expected} → e ≡ expected_of row → e' ≡ expected_of row → e ≡ e'
 expected_only row p q = p ∙ sym q
 
-pub differs_only : (e : Expected) (words : List ℕ) (work : Bool) {n n' : ℕ} → n ≡ differs e words work
+pub differs_only : (e : Expected) (words : List ℕ) (work : Bool) {n n' : Bool} → n ≡ differs e words work
     → n' ≡ differs e words work → n ≡ n'
 differs_only e words work p q = p ∙ sym q

@@ -10,15 +10,20 @@
 //   15 what is expected of the work space: 1 all zeros, 0 untouched
 #![tactic(auto)]
 
-mod words;
-
-ghost use Rattle.std.specs.Prelude.{◌≡◌, ◌≤◌, false, IfOk, OnErr};
+ghost use Rattle.std.specs.Prelude.{◌≡◌, false, IfOk, OnErr};
+ghost use Rattle.replay_results.specs.Alike as words;
 ghost use Rattle.replay_results.specs.Results.{expected_of, expected_words, as_expected, differs};
 
 use answer_words::Words;
 use replay_report::{told_answer, told_refusal, told_work};
 use std::io;
-pub use words::alike;
+
+// Whether two rows of words are the same
+pub fn alike(one: &[u64], other: &[u64]) -> bool
+    ensures { result ≡ words.alike one.now other.now }
+{
+    one == other
+}
 
 pub const ROW_WORDS: usize = 16;
 
@@ -56,7 +61,7 @@ pub fn expected_of(row: &[u64; ROW_WORDS]) -> Expected
 }
 
 // The words that a call answered, and whether it left the work space as expected. Says so where the case differs; the
-// answer is 1 then, and else 0. What was found is told by its name. An error comes only of that: where the case differs.
+// answer is whether it does. What was found is told by its name. An error comes only of that: where the case differs.
 pub fn judged(
     rt: &impl Print,
     case: u64,
@@ -64,26 +69,22 @@ pub fn judged(
     expected: Expected,
     given: &[u64; 10],
     work: bool,
-) -> io::Result<u64>
-    ensures value { IfOk result (λ differ. differ ≡ differs expected given.now work) }
-    ensures upper_bound { IfOk result (λ differ. differ ≤ 1) }
+) -> io::Result<bool>
+    ensures value { IfOk result (λ answer. answer ≡ differs expected given.now work) }
     ensures err { OnErr result (as_expected expected given.now work ≡ false) }
 {
     if is_expected(expected, given, work) {
-        return Ok(0);
+        return Ok(false);
     }
     told(rt, case, name, given, work)?;
-    Ok(1)
+    Ok(true)
 }
 
 fn is_expected(expected: Expected, given: &[u64; 10], work: bool) -> bool
     ensures { result ≡ as_expected expected given.now work }
 {
     let wanted = expected_words(expected);
-    if work {
-        return alike(given, &wanted);
-    }
-    false
+    work && alike(given, &wanted)
 }
 
 fn expected_words(expected: Expected) -> [u64; 10]

@@ -5,17 +5,16 @@
 
 mod cases;
 
-ghost use Rattle.std.specs.Prelude.{◌+◌, ◌≤◌, length, IfOk};
+ghost use Rattle.std.specs.Prelude.{◌+◌, ◌≤◌, length, IfOk, IfSome};
 ghost use Rattle.replay_separate.specs.Cases.{Fits};
 ghost use Rattle.replay_report.specs.Turns.{GetsOn};
 
 use case_rows::next_case_row;
 use cases::{Bounds, bounds_of, largest};
-use decimals::Row;
 use lent_words::{fill, is_left};
-use list_room::{TEXT_ROOM, node_room, pool_room, text_room, work_room};
-use list_words::{Entries, next_list};
-use replay_report::{Tally, Turn, counted, goes_on, read_full, report, started, too_long};
+use list_room::{node_room, pool_room, work_room};
+use list_words::next_list;
+use replay_report::{Fault, Tried, run};
 use replay_results::{Expected, ROW_WORDS, expected_of, judged};
 use separation_words::ten_words;
 use separator::separate;
@@ -23,8 +22,8 @@ use std::io;
 
 // ---- one case
 
-// Calls with work space that is filled, and looks at what is left of it. The answer is 1 where the case differs, and
-// else 0.
+// Calls with work space that is filled, and looks at what is left of it. The answer is whether the case
+// differs.
 fn called(
     rt: &impl Print,
     number: u64,
@@ -33,9 +32,7 @@ fn called(
     nodes: &[u32],
     pool: &[u32],
     work: &mut [u64],
-) -> io::Result<u64>
-    ensures { IfOk result (λ differ. differ ≤ 1) }
-{
+) -> io::Result<bool> {
     fill(work);
     let given = separate(nodes, pool, bounds.n, bounds.marks, work);
     let left = is_left(work, 0, expected.cleared);
@@ -49,9 +46,8 @@ fn with_space(
     row: &[u64; ROW_WORDS],
     nodes: &[u32],
     pool: &[u32],
-) -> io::Result<u64>
+) -> io::Result<bool>
     requires { Fits row.now }
-    ensures { IfOk result (λ differ. differ ≤ 1) }
 {
     let mut work = work_room();
     let words = row[4] as usize;
@@ -75,19 +71,16 @@ fn tried(
     at: usize,
     nodes: &mut [u32],
     pool: &mut [u32],
-) -> io::Result<Turn>
+) -> Result<Tried, Fault>
     requires at_in_bounds { at ≤ length text.now }
     requires fits { Fits row.now }
     ensures { IfOk result (GetsOn (length text.now) at) }
 {
-    let reading = next_list(text, at, nodes, pool);
-    match reading {
-        Entries::Whole(next) => Ok(Turn::Tried {
-            next: next,
-            differ: with_space(rt, number, row, nodes, pool)?,
-        }),
-        Entries::Bad(offset) => Ok(Turn::Malformed(offset)),
-    }
+    let next = next_list(text, at, nodes, pool)?;
+    Ok(Tried {
+        next,
+        differs: with_space(rt, number, row, nodes, pool)?,
+    })
 }
 
 // Node words and pool entries as many as the case has.
@@ -97,7 +90,7 @@ fn in_room(
     row: &[u64; ROW_WORDS],
     text: &[u8],
     at: usize,
-) -> io::Result<Turn>
+) -> Result<Tried, Fault>
     requires at_in_bounds { at ≤ length text.now }
     requires fits { Fits row.now }
     ensures { IfOk result (GetsOn (length text.now) at) }
@@ -117,42 +110,22 @@ fn in_room(
     )
 }
 
-fn next_case(rt: &impl Print, number: u64, text: &[u8], at: usize) -> io::Result<Turn>
-    ensures { IfOk result (GetsOn (length text.now) (at + 1)) }
+fn next_case(rt: &impl Print, number: u64, text: &[u8], at: usize) -> Result<Option<Tried>, Fault>
+    ensures { IfOk result (λ case. IfSome case (GetsOn (length text.now) (at + 1))) }
 {
-    let largest = largest();
     let mut row = [0u64; ROW_WORDS];
-    let reading = next_case_row(text, at, &mut row, &largest);
-    match reading {
-        Row::Whole(next) => in_room(rt, number, &row, text, next),
-        Row::End => Ok(Turn::End),
-        Row::Bad(offset) => Ok(Turn::Malformed(offset)),
-    }
+    let Some(next) = next_case_row(text, at, &mut row, &largest())? else {
+        return Ok(None);
+    };
+    Ok(Some(in_room(rt, number, &row, text, next)?))
 }
 
-// ---- all cases
-
-// Cases are numbered from 1.
-fn replay(rt: &impl Print, text: &[u8]) -> io::Result<Tally> {
-    let mut tally = started();
-    while goes_on(tally) {
-        tally = counted(tally, next_case(rt, tally.cases + 1, text, tally.at)?);
-    }
-    Ok(tally)
-}
-
-// An input that fills the whole room may go on behind it, and is not replayed in part. The stack must hold the text and
-// the room for a case, some three megabytes together.
+// The stack must hold the text and the room for a case, some three megabytes together.
 fn main(rt: HostRuntime) -> io::Result<()> {
-    let mut text = text_room();
-    let mut input = rt.stdin();
-    let n = read_full(&mut input, &mut text)?;
-    if n == TEXT_ROOM {
-        return too_long(&rt, n);
-    }
-    report(
+    run(
         &rt,
-        replay(&rt, &text[..n])?,
+        &mut rt.stdin(),
         b"replay_separate < FILE, with cases of decimal words as vectors/separate.py makes them",
+        |number, text, at| next_case(&rt, number, text, at),
     )
 }

@@ -5,36 +5,29 @@
 
 mod cases;
 
-ghost use Rattle.std.specs.Prelude.{◌+◌, ◌≤◌, length, IfOk};
+ghost use Rattle.std.specs.Prelude.{◌+◌, ◌≤◌, length, IfOk, IfSome};
 ghost use Rattle.replay_verify.specs.Cases.{Fits};
 ghost use Rattle.replay_report.specs.Turns.{GetsOn};
 
 use case_rows::next_case_row;
 use cases::{Expected, ROW_WORDS, expected_of, largest};
-use decimals::Row;
 use lent_words::{fill, is_left};
-use list_room::{TEXT_ROOM, node_room, pool_room, text_room, work_room};
-use list_words::{Entries, next_list};
-use meaning::Refusal;
-use replay_report::{
-    Tally, Turn, counted, goes_on, read_full, report, started, told_refusal, told_work, too_long,
-};
+use list_room::{node_room, pool_room, work_room};
+use list_words::next_list;
+use replay_report::{Fault, Tried, run, told_refusal, told_work};
+use result_words::two_words;
 use std::io;
 use verifier::verify_expr;
 
 // ---- one case
 
-fn told(rt: &impl Print, number: u64, given: Refusal, left: bool) -> io::Result<()> {
-    told_refusal(rt, number, given.number as u64, given.node as u64)?;
+fn told(rt: &impl Print, number: u64, given: [u64; 2], left: bool) -> io::Result<()> {
+    told_refusal(rt, number, given[0], given[1])?;
     told_work(rt, left)?;
     println!(rt;)
 }
 
-fn is_answer(given: Refusal, expected: Expected) -> bool {
-    given.number as u64 == expected.number && given.node as u64 == expected.node
-}
-
-// Says so where the case differs; the answer is 1 then, and else 0.
+// Says so where the case differs; the answer is whether it does.
 fn compared(
     rt: &impl Print,
     number: u64,
@@ -42,17 +35,15 @@ fn compared(
     nodes: &[u32],
     pool: &[u32],
     work: &mut [u64],
-) -> io::Result<u64>
-    ensures { IfOk result (λ differ. differ ≤ 1) }
-{
+) -> io::Result<bool> {
     fill(work);
-    let given = verify_expr(nodes, pool, work);
+    let given = two_words(verify_expr(nodes, pool, work));
     let left = is_left(work, 0, expected.cleared);
-    if is_answer(given, expected) && left {
-        return Ok(0);
+    if given == [expected.number, expected.node] && left {
+        return Ok(false);
     }
     told(rt, number, given, left)?;
-    Ok(1)
+    Ok(true)
 }
 
 // Work space as long as the case asks. Each case has new room, so that none finds what another left.
@@ -62,9 +53,8 @@ fn with_space(
     row: &[u64; ROW_WORDS],
     nodes: &[u32],
     pool: &[u32],
-) -> io::Result<u64>
+) -> io::Result<bool>
     requires { Fits row.now }
-    ensures { IfOk result (λ differ. differ ≤ 1) }
 {
     let mut work = work_room();
     let words = row[2] as usize;
@@ -87,19 +77,16 @@ fn tried(
     at: usize,
     nodes: &mut [u32],
     pool: &mut [u32],
-) -> io::Result<Turn>
+) -> Result<Tried, Fault>
     requires at_in_bounds { at ≤ length text.now }
     requires fits { Fits row.now }
     ensures { IfOk result (GetsOn (length text.now) at) }
 {
-    let reading = next_list(text, at, nodes, pool);
-    match reading {
-        Entries::Whole(next) => Ok(Turn::Tried {
-            next: next,
-            differ: with_space(rt, number, row, nodes, pool)?,
-        }),
-        Entries::Bad(offset) => Ok(Turn::Malformed(offset)),
-    }
+    let next = next_list(text, at, nodes, pool)?;
+    Ok(Tried {
+        next,
+        differs: with_space(rt, number, row, nodes, pool)?,
+    })
 }
 
 // Node words and pool entries as many as the case has.
@@ -109,7 +96,7 @@ fn in_room(
     row: &[u64; ROW_WORDS],
     text: &[u8],
     at: usize,
-) -> io::Result<Turn>
+) -> Result<Tried, Fault>
     requires at_in_bounds { at ≤ length text.now }
     requires fits { Fits row.now }
     ensures { IfOk result (GetsOn (length text.now) at) }
@@ -129,42 +116,22 @@ fn in_room(
     )
 }
 
-fn next_case(rt: &impl Print, number: u64, text: &[u8], at: usize) -> io::Result<Turn>
-    ensures { IfOk result (GetsOn (length text.now) (at + 1)) }
+fn next_case(rt: &impl Print, number: u64, text: &[u8], at: usize) -> Result<Option<Tried>, Fault>
+    ensures { IfOk result (λ case. IfSome case (GetsOn (length text.now) (at + 1))) }
 {
-    let largest = largest();
     let mut row = [0u64; ROW_WORDS];
-    let reading = next_case_row(text, at, &mut row, &largest);
-    match reading {
-        Row::Whole(next) => in_room(rt, number, &row, text, next),
-        Row::End => Ok(Turn::End),
-        Row::Bad(offset) => Ok(Turn::Malformed(offset)),
-    }
+    let Some(next) = next_case_row(text, at, &mut row, &largest())? else {
+        return Ok(None);
+    };
+    Ok(Some(in_room(rt, number, &row, text, next)?))
 }
 
-// ---- all cases
-
-// Cases are numbered from 1.
-fn replay(rt: &impl Print, text: &[u8]) -> io::Result<Tally> {
-    let mut tally = started();
-    while goes_on(tally) {
-        tally = counted(tally, next_case(rt, tally.cases + 1, text, tally.at)?);
-    }
-    Ok(tally)
-}
-
-// An input that fills the whole room may go on behind it, and is not replayed in part. The stack must hold the text and
-// the room for a case, three megabytes together.
+// The stack must hold the text and the room for a case, three megabytes together.
 fn main(rt: HostRuntime) -> io::Result<()> {
-    let mut text = text_room();
-    let mut input = rt.stdin();
-    let n = read_full(&mut input, &mut text)?;
-    if n == TEXT_ROOM {
-        return too_long(&rt, n);
-    }
-    report(
+    run(
         &rt,
-        replay(&rt, &text[..n])?,
+        &mut rt.stdin(),
         b"replay_verify < FILE, with cases of decimal words as vectors/verify.py makes them",
+        |number, text, at| next_case(&rt, number, text, at),
     )
 }

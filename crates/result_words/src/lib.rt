@@ -3,10 +3,27 @@
 #![tactic(auto)]
 
 ghost use Rattle.std.specs.Prelude.{◌≡◌};
-ghost use Rattle.result_words.specs.Words.{result_words};
+ghost use Rattle.meaning.specs.Rules.Refusals.{refusal_said};
+ghost use Rattle.result_words.specs.Words.{result_words, refusal_words};
 
 use answer_words::words_of;
-use meaning::{Answer, Refusal};
+use meaning::{Answer, Refusal, numbers};
+
+// The refusal of a call that is not refused, in words: number 0, node 0
+pub const DONE: Refusal = Refusal {
+    number: numbers::DONE,
+    node: 0,
+};
+
+// Number and node of the refusal, 0 and 0 where there is none.
+pub fn two_words<T: Copy>(answer: Result<T, Refusal>) -> [u64; 2]
+    ensures { result ≡ refusal_words (refusal_said answer) }
+{
+    match answer {
+        Ok(_) => [0, 0],
+        Err(refusal) => [refusal.number as u64, refusal.node as u64],
+    }
+}
 
 // Number, node, what was found, the assignment at which, then state, width and value of the first answer and of the
 // second.

@@ -31,12 +31,11 @@ pub fn answer_at(work: &[u64], row: usize) -> Answer
     requires wide { Wide work.now row }
     ensures { (s : Shape) → cell work.now shape_column row ≡ shape_code s → result ≡ from_row (width_of s) (cell work.now state_column row) (cell work.now value_column row) }
 {
-    let state = get(work, STATE, row);
-    if state != 0 {
-        return Answer::Failed(failure_of(state));
-    }
-    Answer::Value {
-        width: width_of(get(work, SHAPE, row)),
-        value: get(work, VALUE, row),
+    match get(work, STATE, row) {
+        0 => Answer::Value {
+            width: width_of(get(work, SHAPE, row)),
+            value: get(work, VALUE, row),
+        },
+        state => Answer::Failed(failure_of(state)),
     }
 }

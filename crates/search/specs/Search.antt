@@ -1,44 +1,15 @@
--- "at the lowest faulty node": the tests that are made node by node, what each needs to have at hand, and what a search
--- from node 0 on that stops at the first fault says.
-use Rattle.std.specs.Prelude.{ℕ, suc, ◌+◌, ◌-◌, ◌*◌, ◌≤◌, ◌<◌, ◌≡◌, List, length}
+-- "at the lowest faulty node": what a test of one node answers, and what a search from node 0 on that stops at the first
+-- fault says.
+use Rattle.std.specs.Prelude.{ℕ, suc, ◌-◌, ◌<◌, ◌≡◌, ◌≢◌, Result, Ok, Err, ⊤}
+use Rattle.meaning.specs.declared.Refusal.{Refusal}
 use Rattle.std.proofs.Common.{ap, sym, ◌∙◌, arith, eqb-true}
-use Rattle.meaning.specs.Rules.Limits.{work_per_node}
-use Rattle.meaning.specs.Rules.Trees.{node_count}
-use Rattle.meaning.specs.Rules.Refusals.{done, refuse, at_lowest}
-use Rattle.meaning.specs.Rules.Layout.{layout_fault}
-use Rattle.meaning.specs.Rules.Reach.{mark_of}
-use Rattle.meaning.specs.Rules.Verification.{verify_fault}
-use Rattle.meaning.specs.Rules.Evaluable.{shape_fault}
-use Rattle.meaning.specs.Rules.Canonical.{gate_fault}
+use Rattle.meaning.specs.Rules.Refusals.{done, refuse, numbered, answered, at_lowest}
 use Rattle.meaning.proofs.Laws.NumberLaws.{lowest_exactly, all_done, lowest_zero}
-use Rattle.lists.specs.Laid.{Laid}
-use Rattle.columns.specs.Columns.{mark_column, shape_column, Column}
-use Rattle.shapes.specs.Shapes.{shape_at}
-use Rattle.search.specs.declared.Test.{Test}
-use Rattle.search.specs.declared.Test.TheVariants.{Layout, Verification, Evaluability, Gates}
+use Rattle.meaning.proofs.Laws.RefusalLaws.{answered_refused, none_of_ok, number_of_err}
 
--- a node's fault in a test
-abbrev pub fault_of : Test → List ℕ → List ℕ → ℕ → ℕ
-fault_of Layout = layout_fault
-fault_of Verification = verify_fault
-fault_of Evaluability = shape_fault
-fault_of Gates = gate_fault
-
--- the work space has rows for the list, and its marks, or its shapes, in their column
-pub record Marked (ns ps : List ℕ) (base : ℕ) (work : List ℕ) : Type 0 where
-  pub laid : Laid ns ps
-  pub room : work_per_node * (base + node_count ns) ≤ length work
-  pub marks : Column work mark_column base (node_count ns) (mark_of ns ps)
-
-abbrev pub Shaped : List ℕ → List ℕ → ℕ → List ℕ → Type 0
-Shaped ns ps base work = Column work shape_column base (node_count ns) (shape_at ns ps)
-
--- what a test needs
-abbrev pub Ready : Test → List ℕ → List ℕ → ℕ → List ℕ → Type 0
-Ready Layout ns ps base work = Unit
-Ready Verification ns ps base work = Marked ns ps base work
-Ready Evaluability ns ps base work = Marked ns ps base work × Shaped ns ps base work
-Ready Gates ns ps base work = Marked ns ps base work × Shaped ns ps base work
+-- a test that answers each of the first n nodes by its number among the faults
+abbrev pub Tests : (ℕ → Result ⊤ ℕ → Type 0) → ℕ → (ℕ → ℕ) → Type 0
+Tests answers n faults = (i : ℕ) (r : Result ⊤ ℕ) → i < n → answers i r → r ≡ numbered (faults i)
 
 -- ---- the search
 module _ (n : ℕ) (fault : ℕ → ℕ) where
@@ -52,3 +23,19 @@ module _ (n : ℕ) (fault : ℕ → ℕ) where
 
   pub search_none : ((j : ℕ) → j < n → fault j ≡ 0) → done ≡ at_lowest n fault
   search_none fine = sym ((lowest_zero n fault).is (eqb-true (at_lowest n fault).number 0 (all_done n fault fine)))
+
+module _ (answers : ℕ → Result ⊤ ℕ → Type 0) (n : ℕ) (faults : ℕ → ℕ) (tests : Tests answers n faults) where
+  passed : (i : ℕ) → i < n → answers i (Ok tt) → faults i ≡ 0
+  passed i l h = none_of_ok (faults i) (sym (tests i (Ok tt) l h))
+
+  pub none_found : ((j : ℕ) → j < n → answers j (Ok tt)) → Ok tt ≡ answered (at_lowest n faults)
+  none_found fine = ap answered (search_none n faults (λ j l. passed j l (fine j l)))
+
+  pub first_found : (i : ℕ) → i < n → ((j : ℕ) → j < i → answers j (Ok tt)) → (number : ℕ) → answers i (Err number)
+      → Err (refuse number i) ≡ answered (at_lowest n faults)
+  first_found i inside before number here =
+      let said : (faults i ≡ number) × (faults i ≢ 0) = number_of_err (faults i) number (sym (tests i (Err number) inside here)) in
+      let found : refuse number i ≡ at_lowest n faults =
+      ap (λ (k : ℕ). refuse k i) (sym said.0)
+      ∙ search_found n faults i inside (λ j l. passed j (omega arith) (before j l)) (omega (arith, said.1)) in
+      ap Err found ∙ sym (answered_refused (at_lowest n faults) (λ e. said.1 (said.0 ∙ ap (λ (r : Refusal). r.number) found ∙ e)))

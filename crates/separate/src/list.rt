@@ -8,7 +8,6 @@ use inputs::driving::no_variables;
 use list_room::written::work_room;
 use long_searches::variables::variables_below;
 use long_searches::write_warning;
-use meaning::numbers::DONE;
 use refusal_text::write_refusal;
 use separation_text::write_separation;
 use separator::separate;
@@ -44,14 +43,11 @@ fn separate_in(
     requires variables_len { length variables.old ≡ variable_count }
 {
     let count = variables_below(nodes, pool, work, variables);
-    let bounds = bounded(nodes, n, marks);
-    if bounds.number == DONE {
+    if bounded(nodes, n, marks).is_ok() {
         let _ = write_warning(&mut rt.stderr(), count, b" variables below the root");
     }
-    let separation = separate(nodes, pool, n, marks, work);
-    let refusal = separation.refusal;
-    if refusal.number == DONE {
-        return write_separation(&mut rt.stdout(), separation, n, marks);
+    match separate(nodes, pool, n, marks, work) {
+        Ok(separation) => write_separation(&mut rt.stdout(), separation, n, marks),
+        Err(refusal) => write_refusal(&mut rt.stdout(), refusal),
     }
-    write_refusal(&mut rt.stdout(), refusal)
 }

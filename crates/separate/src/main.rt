@@ -13,7 +13,7 @@ use signals::marks_of_arguments;
 use source::separate_source;
 use std::io;
 use std::io::Write;
-use words::{Number, number_of_argument};
+use words::number_of_argument;
 
 fn write_usage<W: Write>(out: &mut W) -> io::Result<()> {
     out.write_all(
@@ -29,12 +29,10 @@ fn write_usage<W: Write>(out: &mut W) -> io::Result<()> {
 
 // The numbers are read first, so that a list is looked at only if there is something to ask of it.
 fn separate_arguments(rt: &HostRuntime, arguments: usize) -> io::Result<()> {
-    let asked = number_of_argument(rt, 2, b"N");
-    let Number::Value(n) = asked else {
+    let Some(n) = number_of_argument(rt, 2, b"N") else {
         return Ok(());
     };
-    let named = marks_of_arguments(rt, arguments);
-    let Number::Value(marks) = named else {
+    let Some(marks) = marks_of_arguments(rt, arguments) else {
         return Ok(());
     };
     separate_source(rt, n, marks)

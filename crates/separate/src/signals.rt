@@ -1,7 +1,7 @@
 // The run signals that arguments name, as the separator takes them: bit v of one word is the mark of variable v.
 ghost use Rattle.std.specs.Prelude.{◌≡◌, ◌^◌, ◌<◌};
 
-use super::words::{Number, number_of_argument};
+use super::words::number_of_argument;
 use std::io;
 use std::io::Write;
 
@@ -12,29 +12,22 @@ const FIRST_MARK: usize = 3;
 const MARK_COUNT: u32 = 32;
 
 // All marks together; named twice, a variable is marked all the same.
-pub(crate) fn marks_of_arguments(rt: &HostRuntime, arguments: usize) -> Number {
-    let mut marks: u32 = 0;
+pub(crate) fn marks_of_arguments(rt: &HostRuntime, arguments: usize) -> Option<u32> {
+    let mut marks = 0;
     for i in FIRST_MARK..arguments {
-        let number = mark_of_argument(rt, i);
-        let Number::Value(mark) = number else {
-            return Number::Nothing;
-        };
-        marks = marks | mark;
+        marks |= mark_of_argument(rt, i)?;
     }
-    Number::Value(marks)
+    Some(marks)
 }
 
 // Whether there is such a variable is for number 11 to say, as long as there is a bit for its mark.
-fn mark_of_argument(rt: &HostRuntime, i: usize) -> Number {
-    let number = number_of_argument(rt, i, b"run signal");
-    let Number::Value(variable) = number else {
-        return Number::Nothing;
-    };
+fn mark_of_argument(rt: &HostRuntime, i: usize) -> Option<u32> {
+    let variable = number_of_argument(rt, i, b"run signal")?;
     if variable >= MARK_COUNT {
         let _ = write_past_the_marks(&mut rt.stderr(), variable);
-        return Number::Nothing;
+        return None;
     }
-    Number::Value(mark_of(variable))
+    Some(mark_of(variable))
 }
 
 fn mark_of(variable: u32) -> u32

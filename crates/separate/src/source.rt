@@ -1,11 +1,9 @@
 // The list in the file that the first argument names, or on standard input. What is wrong with a text is written to
 // standard error, so that standard output has the separator's answer alone.
 ghost use Rattle.list_room.specs.Written.{Taken};
-ghost use Rattle.list_texts.specs.Counted.{Starts};
 
 use super::list;
 use list_files::list_of_source;
-use list_parts::Found;
 use list_room::written::{node_room, pool_room};
 use std::io;
 
@@ -25,31 +23,8 @@ fn separate_found(
 ) -> io::Result<()>
     requires { Taken nodes.old pool.old }
 {
-    let found = list_of_source(rt, 1, nodes, pool);
-    let Found::List {
-        words,
-        entries,
-        next: _,
-    } = found
-    else {
+    let Some(found) = list_of_source(rt, 1, nodes, pool) else {
         return Ok(());
     };
-    separate_starts(rt, nodes, words, pool, entries, n, marks)
-}
-
-// The list stands at the start of what was lent for it.
-fn separate_starts(
-    rt: &HostRuntime,
-    nodes: &[u32],
-    words: usize,
-    pool: &[u32],
-    entries: usize,
-    n: u32,
-    marks: u32,
-) -> io::Result<()>
-    requires starts { Starts words nodes.now }
-    requires starts_2 { Starts entries pool.now }
-    requires taken { Taken nodes.now pool.now }
-{
-    list::separate_list(rt, &nodes[..words], &pool[..entries], n, marks)
+    list::separate_list(rt, &nodes[..found.words], &pool[..found.entries], n, marks)
 }

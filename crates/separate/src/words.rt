@@ -4,55 +4,45 @@ ghost use Rattle.std.specs.Prelude.{◌≡◌};
 ghost use Rattle.separate.specs.Numbers as numbers;
 
 use list_files::buffer;
-use list_texts::{Rest, rest_from};
-use list_words::{Entry, next_entry};
+use list_texts::rest_from;
+use list_words::next_entry;
 use std::env::Env;
 use std::io;
 use std::io::Write;
 
-// A number; or nothing, and the message is written.
-#[derive(Clone, Copy)]
-pub(crate) enum Number {
-    Value(u32),
-    Nothing,
-}
-
-// The number that an argument is; the name says what it stands for. Nobody asks for an argument that is missing.
-pub(crate) fn number_of_argument(rt: &HostRuntime, i: usize, name: &[u8]) -> Number {
+// The number that an argument is; or none, and the message is written. The name says what it stands for. Nobody asks for an
+// argument that is missing.
+pub(crate) fn number_of_argument(rt: &HostRuntime, i: usize, name: &[u8]) -> Option<u32> {
     let mut argument = buffer();
     match rt.arg(i, &mut argument) {
         Ok(n) => told_number(&mut rt.stderr(), name, &argument[..n]),
         Err(_) => {
             let _ = write_too_long(&mut rt.stderr(), name);
-            Number::Nothing
+            None
         }
     }
 }
 
-fn told_number<W: Write>(err: &mut W, name: &[u8], text: &[u8]) -> Number {
+fn told_number<W: Write>(err: &mut W, name: &[u8], text: &[u8]) -> Option<u32> {
     let number = number_in(text);
-    match number {
-        Number::Value(value) => Number::Value(value),
-        Number::Nothing => {
-            let _ = write_bad(err, name, text);
-            Number::Nothing
-        }
+    if number.is_none() {
+        let _ = write_bad(err, name, text);
     }
+    number
 }
 
 // The one word of a text, with nothing but blanks around it.
-fn number_in(text: &[u8]) -> Number
+#[tactic(auto, unfolding(crate::specs::Numbers::number_in))]
+fn number_in(text: &[u8]) -> Option<u32>
     ensures { result ≡ numbers.number_in text.now }
 {
-    let entry = next_entry(text, 0);
-    let Entry::Value { value, next } = entry else {
-        return Number::Nothing;
+    let Ok(word) = next_entry(text, 0) else {
+        return None;
     };
-    let rest = rest_from(text, next);
-    match rest {
-        Rest::Blank => Number::Value(value),
-        Rest::Words => Number::Nothing,
-        Rest::Bad(_) => Number::Nothing,
+    match rest_from(text, word.next) {
+        Ok(true) => Some(word.value),
+        Ok(false) => None,
+        Err(_) => None,
     }
 }
 

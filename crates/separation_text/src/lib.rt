@@ -15,8 +15,7 @@ pub fn write_separation<W: Write>(
     n: u32,
     marks: u32,
 ) -> io::Result<()> {
-    let judgement = separation.judgement;
-    match judgement {
+    match separation.judgement {
         Judgement::Separate => write_separate(out, marks),
         Judgement::Crossing => write_crossing(out, separation, n, marks),
     }
@@ -50,12 +49,13 @@ fn write_crossing<W: Write>(
     write_answers(out, separation)
 }
 
-// Their names, one behind the other: bit v stands for variable v.
+// Their names, one behind the other: bit v stands for variable v. The bits are halved, since no shift by n is known to be
+// in range here.
 fn write_names<W: Write>(out: &mut W, signals: u64, n: u32) -> io::Result<()> {
     let mut bits = signals;
     for v in 0..n {
         write_name(out, v, bits % 2)?;
-        bits = bits / 2;
+        bits /= 2;
     }
     Ok(())
 }
@@ -73,8 +73,8 @@ fn write_assignment<W: Write>(out: &mut W, index: u64, n: u32, marks: u32) -> io
     let mut rest = marks;
     for v in 0..n {
         write_signal(out, v, bits % 2, rest % 2)?;
-        bits = bits / 2;
-        rest = rest / 2;
+        bits /= 2;
+        rest /= 2;
     }
     Ok(())
 }
@@ -88,10 +88,8 @@ fn write_signal<W: Write>(out: &mut W, variable: u32, bit: u64, mark: u32) -> io
 }
 
 fn write_answers<W: Write>(out: &mut W, separation: Separation) -> io::Result<()> {
-    let run = separation.run;
-    let cleared = separation.cleared;
     out.write_all(b"  as it is: ")?;
-    write_answer(out, run)?;
+    write_answer(out, separation.run)?;
     out.write_all(b"  with the run signals cleared: ")?;
-    write_answer(out, cleared)
+    write_answer(out, separation.cleared)
 }

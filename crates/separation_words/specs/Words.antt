@@ -1,6 +1,6 @@
 -- A separation's result as words: its number and node, the judgement, the index, and both answers.
 use Rattle.std.specs.Prelude.{ℕ, List}
-use Rattle.meaning.specs.declared.Separation.{Separation}
+use Rattle.meaning.specs.Rules.Separation.{Separation}
 use Rattle.meaning.specs.Rules.Separation.{judgement_number}
 use Rattle.result_words.specs.Words.{result_words}
 

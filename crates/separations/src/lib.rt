@@ -8,27 +8,21 @@ ghost use Rattle.std.specs.Prelude.{◌≡◌};
 ghost use Rattle.meaning.specs.Rules.Comparison.{same_answer};
 ghost use Rattle.meaning.specs.Rules.Separation as rule;
 
-use answer_words::{same, words_of};
 use comparisons::blank;
-use meaning::numbers::DONE;
-use meaning::{Answer, Judgement, Refusal, Separation};
+use meaning::{Answer, Judgement, Separation};
 
 // "the same answer, value or named failure": failing with 2 is not failing with 3, and widths count.
 pub fn same_answer(first: Answer, second: Answer) -> bool
     ensures { result ≡ same_answer first second }
 {
-    same(words_of(first), words_of(second))
+    first == second
 }
 
 // "for Separate the rest is zero"
 pub fn separated() -> Separation
-    ensures { result ≡ rule.separated }
+    ensures { result ≡ rule.found rule.separated }
 {
     Separation {
-        refusal: Refusal {
-            number: DONE,
-            node: 0,
-        },
         judgement: Judgement::Separate,
         index: 0,
         run: blank(),
@@ -38,29 +32,12 @@ pub fn separated() -> Separation
 
 // "Crossing carries i and the answers at i and at i with its run bits cleared"
 pub fn crossing_at(index: u64, run: Answer, cleared: Answer) -> Separation
-    ensures { result ≡ rule.crossing_at index run cleared }
+    ensures { result ≡ rule.found (rule.crossing_at index run cleared) }
 {
     Separation {
-        refusal: Refusal {
-            number: DONE,
-            node: 0,
-        },
         judgement: Judgement::Crossing,
-        index: index,
-        run: run,
-        cleared: cleared,
-    }
-}
-
-// "other fields zero (.. judgement Crossing, an answer width 0 and value 0)"
-pub fn refused(refusal: Refusal) -> Separation
-    ensures { result ≡ rule.separation_refused refusal }
-{
-    Separation {
-        refusal: refusal,
-        judgement: Judgement::Crossing,
-        index: 0,
-        run: blank(),
-        cleared: blank(),
+        index,
+        run,
+        cleared,
     }
 }

@@ -2,7 +2,7 @@
 use Rattle.std.specs.Prelude.{ℕ, ◌≡◌, ◌↔◌, ◌≢◌, List}
 use Rattle.std.proofs.Common.{sym, ap, subst, ◌∙◌}
 use Rattle.meaning.specs.declared.Judgement.TheVariants.{Separate}
-use Rattle.meaning.specs.declared.Separation.{Separation}
+use Rattle.meaning.specs.Rules.Separation.{Separation}
 use Rattle.meaning.specs.Rules.Trees.{root_of}
 use Rattle.meaning.specs.Rules.Calls.{Judged, judged, separate}
 use Rattle.meaning.specs.Claims.Terms.{NoCrossing, Crosses}

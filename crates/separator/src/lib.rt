@@ -11,63 +11,69 @@ mod numbered;
 ghost use Rattle.std.specs.Prelude.{◌≡◌, true, ◌*◌, ◌≤◌, length};
 ghost use Rattle.meaning.specs.Rules.Limits.{most_nodes, work_per_node};
 ghost use Rattle.meaning.specs.Rules.Trees.{node_count, root_of};
-ghost use Rattle.meaning.specs.Rules.Separation.{in_bounds, separate_tree};
+ghost use Rattle.meaning.specs.Rules.Separation.{in_bounds, separate_tree, found, separation_result};
 ghost use Rattle.meaning.specs.Rules.Calls as calls;
 ghost use Rattle.rows.specs.Rows.{Prepared};
 ghost use Rattle.inputs.specs.Driving.{Drivable};
 ghost use Rattle.crossings.specs.Searching.{Searchable};
 ghost use Rattle.separator.specs.Outcome.{rest_answer};
 
-use bits::power_of_two;
 use bounds::bounded;
 use columns::clear;
 use crossings::lowest_crossing;
 use crossings::trial::answer_under;
 use input_bits::input_mask;
 use inputs::driving::{no_variables, undriven};
-use meaning::Separation;
-use meaning::numbers::DONE;
+use meaning::{Refusal, Separation};
 use nodes::wide;
 use numbered::name_variables;
-use refusals::first_refusal;
-use separations::{crossing_at, refused, separated};
+use separations::{crossing_at, separated};
 use sizes::lent;
 use verifier::sound;
 
 // Numbers 1, 2, 10, 3 to 8 and 11, in that order, and then the judgement, for any input: n declared variables, and
 // marks on the run signals among them, bit v for variable v. The work space is untouched after 1, 2 and 10, and else
 // all zeros.
-pub fn separate(nodes: &[u32], pool: &[u32], n: u32, marks: u32, work: &mut [u64]) -> Separation
-    ensures { calls.judged result work.new ≡ calls.separate nodes.now pool.now n marks work.old }
+#[tactic(auto, using(crate::specs::Outcome::call))]
+pub fn separate(
+    nodes: &[u32],
+    pool: &[u32],
+    n: u32,
+    marks: u32,
+    work: &mut [u64],
+) -> Result<Separation, Refusal>
+    ensures value { result ≡ separation_result (calls.separate nodes.now pool.now n marks work.old).answer }
+    ensures work_after { work.new ≡ (calls.separate nodes.now pool.now n marks work.old).work }
 {
-    let lent = lent(nodes, pool, work.len());
-    if lent.number != DONE {
-        return refused(lent);
-    }
+    lent(nodes, pool, work.len())?;
     let separation = judged(nodes, pool, n, marks, work);
     clear(work);
     separation
 }
 
 // What is left past numbers 1, 2 and 10.
-fn judged(nodes: &[u32], pool: &[u32], n: u32, marks: u32, work: &mut [u64]) -> Separation
+#[tactic(auto, using(crate::specs::Outcome::past_10))]
+fn judged(
+    nodes: &[u32],
+    pool: &[u32],
+    n: u32,
+    marks: u32,
+    work: &mut [u64],
+) -> Result<Separation, Refusal>
     requires nodes_bound { node_count nodes.now ≤ most_nodes }
     requires nodes_in_bounds { work_per_node * node_count nodes.now ≤ length work.old }
-    ensures { result ≡ rest_answer nodes.now pool.now n marks }
+    ensures { result ≡ separation_result (rest_answer nodes.now pool.now n marks) }
 {
-    let listed = sound(nodes, pool, 0, work);
-    let refusal = first_refusal(listed, bounded(nodes, n, marks));
-    if refusal.number != DONE {
-        return refused(refusal);
-    }
-    judgement(nodes, pool, wide(n), marks as u64, work)
+    sound(nodes, pool, 0, work)?;
+    bounded(nodes, n, marks)?;
+    Ok(judgement(nodes, pool, wide(n), marks as u64, work))
 }
 
 // The judgement of a list that nothing refuses. The search's own memory is a byte and a word for each variable number.
 fn judgement(nodes: &[u32], pool: &[u32], n: usize, marks: u64, work: &mut [u64]) -> Separation
     requires prepared { Prepared nodes.now pool.now 0 work.old }
     requires marks_value { in_bounds nodes.now n marks ≡ true }
-    ensures { result ≡ separate_tree (root_of nodes.now pool.now) n marks }
+    ensures { result ≡ found (separate_tree (root_of nodes.now pool.now) n marks) }
 {
     let mut variables = no_variables();
     name_variables(n, &mut variables);
@@ -97,12 +103,11 @@ fn searched(
     requires searchable { Searchable nodes.now pool.now variables.now inputs marks }
     requires prepared { Prepared nodes.now pool.now 0 work.old }
     requires drivable { Drivable variables.now bytes.old }
-    ensures { result ≡ separate_tree (root_of nodes.now pool.now) (length variables.now) marks }
+    ensures { result ≡ found (separate_tree (root_of nodes.now pool.now) (length variables.now) marks) }
 {
-    let index = lowest_crossing(nodes, pool, variables, inputs, marks, bytes, work);
-    if index == power_of_two(variables.len() as u64) {
+    let Some(index) = lowest_crossing(nodes, pool, variables, inputs, marks, bytes, work) else {
         return separated();
-    }
+    };
     let run = answer_under(nodes, pool, variables, index, bytes, work);
     let cleared = answer_under(nodes, pool, variables, index & !marks, bytes, work);
     crossing_at(index, run, cleared)

@@ -7,7 +7,8 @@ pub(crate) fn name_variables(n: usize, variables: &mut [usize])
     requires { n ≤ length variables.old }
     ensures { take n variables.new ≡ upto n }
 {
-    for v in 0..n {
-        variables[v] = v;
+    let named = &mut variables[..n];
+    for (v, variable) in named.iter_mut().enumerate() {
+        *variable = v;
     }
 }

@@ -1,9 +1,10 @@
 -- Shapes as the code keeps them: column SHAPE of a node's row holds the shape's code (Rules/Evaluable, `shape_code`).
-use Rattle.std.specs.Prelude.{ℕ, zero, suc, ◌+◌, ◌-◌, ◌*◌, ◌≤◌, ◌<◌, ◌≡◌, refl, ◌≢◌, Bool, true, cond, not, ◌&&◌, ◌||◌, length, get_or, eqb}
+use Rattle.std.specs.Prelude.{ℕ, zero, suc, ◌+◌, ◌-◌, ◌*◌, ◌≤◌, ◌<◌, ◌≡◌, refl, ◌≢◌, Bool, true, false, cond, not, ◌&&◌, ◌||◌, length, get_or, eqb}
 use Rattle.std.proofs.Common.{sym, ◌∙◌, arith, ltb-true, lt-ltb}
-use Rattle.std.proofs.Math.Path.{ap}
+use Rattle.std.proofs.Math.Path.{ap, ap₂}
 use mathlib.Core.List.{List, [], ◌∷◌}
 use Rattle.std.proofs.Math.Dec.{ltb}
+use Rattle.std.proofs.lemmas.Grind.{get_or_default_zero}
 use Rattle.meaning.proofs.Laws.BoolLaws.{and_left, and_right}
 use Rattle.meaning.proofs.Laws.TreeLaws.{tree_at}
 use Rattle.meaning.specs.Rules.Limits.{work_per_node}
@@ -28,11 +29,18 @@ Holds work base [] (s ∷ ss) = ⊥
 Holds work base (k ∷ ks) [] = ⊥
 Holds work base (k ∷ ks) (s ∷ ss) = (cell work shape_column (base + k) ≡ shape_code s) × Holds work base ks ss
 
--- a bit, or anything but a Program
+-- a bit, or anything but a Program; and the same of the shape's code
 abbrev pub stands : Bool → Shape → Bool
 stands bits_only s = cond bits_only (is_bit s) (is_logic s)
 
+abbrev pub code_stands : Bool → ℕ → Bool
+code_stands bits_only code = cond bits_only (eqb code 1) (ltb 0 code)
+
 module _ (work : List ℕ) (base : ℕ) where
+  -- a child, as a walk along the children meets it
+  pub row_of : (ks : List ℕ) → Rows work base ks → (k i : ℕ) → i < length ks → k ≡ get_or ks i k → place shape_column (base + k) < length work
+  row_of ks rows k i l e = omega (arith, rows i l, get_or_default_zero ks i k l)
+
   pub holds_length : (ks : List ℕ) (ss : List Shape) → Holds work base ks ss → length ss ≡ length ks
   holds_length [] [] h = refl
   holds_length [] (s ∷ ss) h = absurd h
@@ -52,6 +60,14 @@ module _ (work : List ℕ) (base : ℕ) where
   holds_none (k ∷ ks) [] h i l = absurd h
   holds_none (k ∷ ks) (s ∷ ss) h zero l = absurd (omega arith)
   holds_none (k ∷ ks) (s ∷ ss) h (suc i) l = holds_none ks ss h.1 i (omega arith)
+
+  pub holds_every : (bits_only : Bool) (ks : List ℕ) (ss : List Shape) → Holds work base ks ss
+      → every (λ k. code_stands bits_only (cell work shape_column (base + k))) ks ≡ every (stands bits_only) ss
+  holds_every bits_only [] [] h = refl
+  holds_every bits_only [] (s ∷ ss) h = absurd h
+  holds_every bits_only (k ∷ ks) [] h = absurd h
+  holds_every true (k ∷ ks) (s ∷ ss) h = ap₂ (λ (c : ℕ) (b : Bool). eqb c 1 && b) h.0 (holds_every true ks ss h.1)
+  holds_every false (k ∷ ks) (s ∷ ss) h = ap₂ (λ (c : ℕ) (b : Bool). ltb 0 c && b) h.0 (holds_every false ks ss h.1)
 
 -- the width of a value, by its shape's code
 pub bit_width : (s : Shape) → shape_code s ≡ 1 → 1 ≡ width_of s
@@ -77,6 +93,10 @@ width_only code some e f = let c = coded code some in e c.0 c.1 ∙ sym (f c.0 c
 -- the code of node i's shape
 unfoldable pub shape_at : List ℕ → List ℕ → ℕ → ℕ
 shape_at ns ps i = shape_code (shape (tree_of ns ps i))
+
+-- the work space has the shapes of the list in their column
+abbrev pub Shaped : List ℕ → List ℕ → ℕ → List ℕ → Type 0
+Shaped ns ps base work = Column work shape_column base (node_count ns) (shape_at ns ps)
 
 -- the shapes of node i's children
 abbrev pub child_shapes : List ℕ → List ℕ → ℕ → List Shape

@@ -10,8 +10,8 @@ pub fn width_of(shape: u64) -> u32
     requires { (0 < shape) × (shape ≤ widest_bus + 2) }
     ensures { (s : Shape) → shape_code s ≡ shape → result ≡ width_of s }
 {
-    if shape == A_BIT {
-        return 1;
+    match shape {
+        A_BIT => 1,
+        _ => (shape - A_BUS) as u32,
     }
-    (shape - A_BUS) as u32
 }

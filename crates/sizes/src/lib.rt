@@ -6,24 +6,24 @@
 ghost use Rattle.std.specs.Prelude.{◌≡◌, ◌≤◌, length};
 ghost use Rattle.meaning.specs.Rules.Limits.{most_nodes, most_pool};
 ghost use Rattle.meaning.specs.Rules.Trees.{node_count};
-ghost use Rattle.meaning.specs.Rules.Refusals.{◌then◌};
+ghost use Rattle.meaning.specs.Rules.Refusals.{answered, ◌then◌};
 ghost use Rattle.meaning.specs.Rules.Layout.{within_limits, work_for};
 ghost use Rattle.meaning.specs.Rules.Layout as rule;
 ghost use Rattle.sizes.specs.Lent.{lent_both_row};
 
 use meaning::Refusal;
 use meaning::limits::{MOST_NODES, MOST_POOL, WORDS_PER_NODE, WORK_PER_NODE, WORK_PER_POOL};
-use meaning::numbers::{DONE, LITTLE_WORK, NOT_ALIGNED, OVER_LIMIT};
+use meaning::numbers::{LITTLE_WORK, NOT_ALIGNED, OVER_LIMIT};
 use nodes::node_count;
-use refusals::{first_refusal, require};
+use refusals::require;
 
 // 1: "node words are not a multiple of three"; 2: "a list exceeds its limit". Any words may be brought.
-pub fn sizes(nodes: &[u32], pool: &[u32]) -> Refusal
-    ensures { result ≡ rule.sizes nodes.now pool.now }
+#[tactic(auto, unfolding(meaning::specs::Rules::Layout::sizes))]
+pub fn sizes(nodes: &[u32], pool: &[u32]) -> Result<(), Refusal>
+    ensures { result ≡ answered (rule.sizes nodes.now pool.now) }
 {
-    let aligned = require(nodes.len() % WORDS_PER_NODE == 0, NOT_ALIGNED);
-    let within = require(within_limits(nodes, pool), OVER_LIMIT);
-    first_refusal(aligned, within)
+    require(nodes.len() % WORDS_PER_NODE == 0, NOT_ALIGNED)?;
+    require(within_limits(nodes, pool), OVER_LIMIT)
 }
 
 // Inner: "16 u64 words per node plus 2 per pool entry", of a list past number 2; so the sum does not wrap.
@@ -36,38 +36,36 @@ pub fn work_for(nodes: &[u32], pool: &[u32]) -> usize
 }
 
 // Numbers 1, 2 and 10, in that order, of a call that is brought one list and `work` words of work space.
-pub fn lent(nodes: &[u32], pool: &[u32], work: usize) -> Refusal
-    ensures { result ≡ (rule.sizes nodes.now pool.now then rule.room (work_for nodes.now pool.now) work) }
+#[tactic(auto, using(crate::specs::Within::nodes_within, crate::specs::Within::pool_within))]
+pub fn lent(nodes: &[u32], pool: &[u32], work: usize) -> Result<(), Refusal>
+    ensures { result ≡ answered (rule.sizes nodes.now pool.now then rule.room (work_for nodes.now pool.now) work) }
 {
-    let sized = sizes(nodes, pool);
-    if sized.number != DONE {
-        return sized;
-    }
+    sizes(nodes, pool)?;
     room(work_for(nodes, pool), work)
 }
 
 // Numbers 1 and 2 "for each list, first list first", then 10, of a call that is brought two lists and `work` words of
 // work space.
+#[tactic(auto, using(crate::specs::Within::nodes_within, crate::specs::Within::pool_within))]
 pub fn lent_both(
     nodes: &[u32],
     pool: &[u32],
     second_nodes: &[u32],
     second_pool: &[u32],
     work: usize,
-) -> Refusal
-    ensures { result ≡ lent_both_row nodes.now pool.now second_nodes.now second_pool.now work }
+) -> Result<(), Refusal>
+    ensures { result ≡ answered (lent_both_row nodes.now pool.now second_nodes.now second_pool.now work) }
 {
-    let both = first_refusal(sizes(nodes, pool), sizes(second_nodes, second_pool));
-    if both.number != DONE {
-        return both;
-    }
-    let asked = work_for(nodes, pool) + work_for(second_nodes, second_pool);
-    room(asked, work)
+    sizes(nodes, pool).and(sizes(second_nodes, second_pool))?;
+    room(
+        work_for(nodes, pool) + work_for(second_nodes, second_pool),
+        work,
+    )
 }
 
 // 10: of `lent` words of work space, `asked` are needed, "summed over the lists brought".
-pub fn room(asked: usize, lent: usize) -> Refusal
-    ensures { result ≡ rule.room asked lent }
+pub fn room(asked: usize, lent: usize) -> Result<(), Refusal>
+    ensures { result ≡ answered (rule.room asked lent) }
 {
     require(asked <= lent, LITTLE_WORK)
 }

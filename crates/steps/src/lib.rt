@@ -4,7 +4,8 @@
 #![tactic(auto)]
 
 ghost use Rattle.std.specs.Prelude.{◌≡◌};
-ghost use Rattle.meaning.specs.Rules.Kinds.{mux_word, lut_word, bus_word};
+ghost use Rattle.meaning.specs.declared.kinds.Kind.TheVariants.{Mux, Lut, Bus};
+ghost use Rattle.meaning.specs.Rules.Kinds.{kind_of};
 ghost use Rattle.meaning.specs.Rules.Trees.{kind_at, tree_of};
 ghost use Rattle.meaning.specs.Rules.Answers.{answer, nth};
 ghost use Rattle.meaning.specs.Rules.Assignments.{given};
@@ -13,6 +14,7 @@ ghost use Rattle.accepted.specs.Operands.{Operand};
 ghost use Rattle.rows.specs.Rows.{Filled};
 
 use accepted::{leaf_of, operand, program_of};
+use meaning::kinds::Kind;
 use meaning::{Answer, Failure};
 use nodes::{count_of, kind_of};
 use operators::{and_of, arm_of, bus_step, nor_of, not_of, row_bit, xor_of};
@@ -33,31 +35,31 @@ pub fn answer_of(
     requires logic { Logic nodes.now pool.now n }
     ensures { result ≡ answer (given bytes.now) (tree_of nodes.now pool.now n) }
 {
-    let kind = kind_of(nodes, n);
-    match kind {
-        0..=3 => leaf_of(nodes, bytes, n),
-        4 => {
+    match kind_of(nodes, n) {
+        Kind::Const | Kind::DC | Kind::Var => leaf_of(nodes, bytes, n),
+        Kind::Nor => {
             let x = operand_answer(nodes, pool, bytes, base, work, n, 0);
             let y = operand_answer(nodes, pool, bytes, base, work, n, 1);
             nor_of(x, y)
         }
-        5 => mux_at(nodes, pool, bytes, base, work, n),
-        6 => {
+        Kind::Mux => mux_at(nodes, pool, bytes, base, work, n),
+        Kind::And => {
             let x = operand_answer(nodes, pool, bytes, base, work, n, 0);
             let y = operand_answer(nodes, pool, bytes, base, work, n, 1);
             and_of(x, y)
         }
-        7 => {
+        Kind::Xor => {
             let x = operand_answer(nodes, pool, bytes, base, work, n, 0);
             let y = operand_answer(nodes, pool, bytes, base, work, n, 1);
             xor_of(x, y)
         }
-        8 => not_of(operand_answer(nodes, pool, bytes, base, work, n, 0)),
-        9 => lut_at(nodes, pool, bytes, base, work, n),
-        10 => bus_at(nodes, pool, bytes, base, work, n),
-        11..=14 => Answer::Failed(Failure::Register),
-        15 => Answer::Failed(Failure::Argument),
-        _ => operand_answer(nodes, pool, bytes, base, work, n, 0),
+        Kind::Not => not_of(operand_answer(nodes, pool, bytes, base, work, n, 0)),
+        Kind::Lut => lut_at(nodes, pool, bytes, base, work, n),
+        Kind::Bus => bus_at(nodes, pool, bytes, base, work, n),
+        Kind::Reg => Answer::Failed(Failure::Register),
+        Kind::Arg => Answer::Failed(Failure::Argument),
+        Kind::Cycle => operand_answer(nodes, pool, bytes, base, work, n, 0),
+        Kind::Program | Kind::Unknown => unreachable!(),
     }
 }
 
@@ -83,7 +85,7 @@ fn operand_answer(
 fn mux_at(nodes: &[u32], pool: &[u32], bytes: &[u8], base: usize, work: &[u64], n: usize) -> Answer
     requires filled { Filled nodes.now pool.now (given bytes.now) base work.now n }
     requires logic { Logic nodes.now pool.now n }
-    requires n_value { kind_at nodes.now n ≡ mux_word }
+    requires n_value { kind_of (kind_at nodes.now n) ≡ Mux }
     ensures { result ≡ answer (given bytes.now) (tree_of nodes.now pool.now n) }
 {
     let selector = operand_answer(nodes, pool, bytes, base, work, n, 0);
@@ -94,10 +96,11 @@ fn mux_at(nodes: &[u32], pool: &[u32], bytes: &[u8], base: usize, work: &[u64], 
 }
 
 // "Lut: the first operand is the most significant bit of the row number"; the first failing operand ends it.
+// Operands are read by their places here and below: `operand_answer` says of a place what stands there.
 fn lut_at(nodes: &[u32], pool: &[u32], bytes: &[u8], base: usize, work: &[u64], n: usize) -> Answer
     requires filled { Filled nodes.now pool.now (given bytes.now) base work.now n }
     requires logic { Logic nodes.now pool.now n }
-    requires n_value { kind_at nodes.now n ≡ lut_word }
+    requires n_value { kind_of (kind_at nodes.now n) ≡ Lut }
     ensures { result ≡ answer (given bytes.now) (tree_of nodes.now pool.now n) }
 {
     let count = count_of(nodes, n);
@@ -116,7 +119,7 @@ fn lut_at(nodes: &[u32], pool: &[u32], bytes: &[u8], base: usize, work: &[u64], 
 fn bus_at(nodes: &[u32], pool: &[u32], bytes: &[u8], base: usize, work: &[u64], n: usize) -> Answer
     requires filled { Filled nodes.now pool.now (given bytes.now) base work.now n }
     requires logic { Logic nodes.now pool.now n }
-    requires n_value { kind_at nodes.now n ≡ bus_word }
+    requires n_value { kind_of (kind_at nodes.now n) ≡ Bus }
     ensures { result ≡ answer (given bytes.now) (tree_of nodes.now pool.now n) }
 {
     let count = count_of(nodes, n);

@@ -1,45 +1,39 @@
--- Programs made row by row: there is room for every row, a row with a bit put in or two exchanged is again a row, and an
+-- Programs made row by row: one row more, a row with a bit put in or two exchanged is again a row, and an
 -- operand is ignored exactly when its two cofactors are the same program. All over k, for every place.
 use Rattle.std.specs.Prelude.{ℕ, ◌+◌, ◌-◌, ◌*◌, ◌/◌, ◌%◌, ◌^◌, ◌≤◌, ◌<◌, ◌≡◌, refl, Bool, true, false, ◌&&◌, leb, ltb, eqb}
-use Rattle.std.proofs.Common.{sym, ap, ◌∙◌, add_comm, mod-lt, add-one, arith, pow_pos, pow_mono, pow-add, shl_lt, shr_lt}
+use Rattle.std.proofs.Common.{sym, ap, ◌∙◌, add_comm, mod-lt, add-one, arith, pow_pos, pow_mono, pow-add, shr_lt}
 use Rattle.std.proofs.Math.Arith.{digits_lt}
-use borrow.Author.Tests.{eq-eqb, ne_eqb, le-leb, leb-true}
+use borrow.Author.Tests.{eq-eqb, ne_eqb, le-leb}
 use Rattle.bits.specs.Bit.{bit_ext}
-use Rattle.meaning.proofs.Laws.BoolLaws.{true_false, and_left}
+use Rattle.meaning.proofs.Laws.BoolLaws.{true_false}
 use Rattle.meaning.proofs.Laws.SearchLaws.{lowest_only}
 use Rattle.meaning.proofs.Laws.WordLaws.{bit_lt}
-use Rattle.meaning.proofs.Laws.TableLaws.{table_lt, cofactor_row, cofactor_lt, ignores_row}
+use Rattle.meaning.proofs.Laws.TableLaws.{cofactor_row, cofactor_lt, ignores_row}
 use Rattle.meaning.specs.Rules.Limits.{widest_bus}
 use Rattle.meaning.specs.Rules.Tables.{table, table_fits, insert_bit, swap_bits, cofactor, ignores, pair_differs}
 use Rattle.meaning.specs.Rules.Words.{bit_at}
 
--- a part of j bits has room above place q
-pub room : (x j q : ℕ) → x < 2 ^ j → j + q ≤ 64 → x * 2 ^ q < 2 ^ 64
-room x j q h l = omega (arith, shl_lt {a = x} j q h, pow_mono l)
+-- an upper part of m bits at place q, over a lower part of q bits
+joined_lt : (x y m q : ℕ) → x < 2 ^ m → y < 2 ^ q → x * 2 ^ q + y < 2 ^ (m + q)
+joined_lt x y m q h l = rw (pow-add 2 m q) (digits_lt h l)
 
--- a program made from the rows of p, its n-th from row g n: there is room for one row more, and what is then made
-module _ (p : ℕ) (g : ℕ → ℕ) (n : ℕ) {r x y : ℕ}
-    (source : r ≡ g n) (row : x ≡ bit_at p r) (made : y ≡ table (λ i. bit_at p (g i)) n) where
-  pub row_room : n < 64 → (n < 64) × (x * 2 ^ n < 2 ^ 64) × (y < 2 ^ n)
-  row_room h =
-      (h, rw row (room (bit_at p r) 1 n (bit_lt p r) (omega arith)), rw made (table_lt (λ i. bit_at p (g i)) (λ i. bit_lt p (g i)) n))
+-- a program of n rows, and row r of p as its next
+module _ (p r n : ℕ) {x y : ℕ} (row : x ≡ bit_at p r) where
+  pub row_lt : y < 2 ^ n → x * 2 ^ n + y < 2 ^ (n + 1)
+  row_lt h = rw (row, add_comm n 1) (joined_lt (bit_at p r) y 1 n (bit_lt p r) h)
 
-  pub row_added : x * 2 ^ n + y ≡ table (λ i. bit_at p (g i)) (n + 1)
-  row_added = rw (row, source, made, add-one n) (add_comm (bit_at p (g n) * 2 ^ n) (table (λ i. bit_at p (g i)) n))
+  -- which is the table's where r is the table's row n
+  pub row_added : (g : ℕ → ℕ) → r ≡ g n → y ≡ table (λ i. bit_at p (g i)) n
+      → x * 2 ^ n + y ≡ table (λ i. bit_at p (g i)) (n + 1)
+  row_added g source made =
+      rw (row, source, made, add-one n) (add_comm (bit_at p (g n) * 2 ^ n) (table (λ i. bit_at p (g i)) n))
 
 -- ---- the range
 
 pub fits_rows : (p k : ℕ) → k ≤ 6 → (leb (2 ^ k) widest_bus && ltb p (2 ^ (2 ^ k))) ≡ table_fits p k
 fits_rows p k h = let l : 2 ^ k ≤ 64 = pow_mono h in rw (le-leb (2 ^ k) 64 l, le-leb k 6 h)
 
-pub fits_operands : (p k : ℕ) → table_fits p k ≡ true → k ≤ 6
-fits_operands p k h = leb-true k 6 (and_left (leb k 6) (ltb p (2 ^ (2 ^ k))) h)
-
 -- ---- rows stay rows
-
--- an upper part of m bits at place q, over a lower part of q bits
-joined_lt : (x y m q : ℕ) → x < 2 ^ m → y < 2 ^ q → x * 2 ^ q + y < 2 ^ (m + q)
-joined_lt x y m q h l = rw (pow-add 2 m q) (digits_lt h l)
 
 pub insert_lt : (k q b i : ℕ) → q ≤ k → b < 2 → i < 2 ^ k → insert_bit q b i < 2 ^ (k + 1)
 insert_lt k q b i hq hb hi =

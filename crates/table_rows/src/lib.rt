@@ -4,7 +4,7 @@
 // `faults` do.
 #![tactic(auto)]
 
-ghost use Rattle.std.specs.Prelude.{◌≡◌, cond, ◌+◌, ◌^◌, ◌<◌, ◌≤◌};
+ghost use Rattle.std.specs.Prelude.{◌≡◌, ℕ, cond, ◌+◌, ◌^◌, ◌<◌, ◌≤◌};
 ghost use Rattle.meaning.specs.Rules.Words.{bit_at};
 ghost use Rattle.meaning.specs.Rules.Tables as meant;
 
@@ -16,10 +16,7 @@ use meaning::limits::MOST_OPERANDS;
 pub fn table_fits(p: u64, k: u64) -> bool
     ensures { result ≡ meant.table_fits p k }
 {
-    if k > MOST_OPERANDS as u64 {
-        return false;
-    }
-    word_fits(p, power_of_two(k))
+    k <= MOST_OPERANDS as u64 && word_fits(p, power_of_two(k))
 }
 
 // Inner: of a program over k + 1 operands, the rows in which the most significant is 1 (`high`), or 0.
@@ -32,6 +29,21 @@ pub fn half(p: u64, k: u64, high: bool) -> u64
         return p >> rows;
     }
     low_bits(p, rows)
+}
+
+// The program of so many rows whose row i is row `source(i)` of `p`. Where `source` answers as a map g of row numbers,
+// it is the table that g makes.
+fn made_from<F: Fn(u64) -> u64>(p: u64, rows: u64, source: F) -> u64
+    requires few { rows ≤ 64 }
+    requires callable { (i : ℕ) → i < rows → F.pre source i }
+    requires within { (i row : ℕ) → i < rows → F.post source i row → row < 64 }
+    ensures { (g : ℕ → ℕ) → ((i row : ℕ) → i < rows → F.post source i row → row ≡ g i) → result ≡ meant.table (λ i. bit_at p (g i)) rows }
+{
+    let mut made: u64 = 0;
+    for i in 0..rows {
+        made = join(bit_at(p, source(i)), i, made);
+    }
+    made
 }
 
 // Row `i` with the bit `b` put in at place `q`.
@@ -48,12 +60,7 @@ pub fn cofactor(p: u64, k: u64, q: u64, b: u64) -> u64
     requires { (k ≤ 5) × (q ≤ k) × (b < 2) }
     ensures { result ≡ meant.cofactor p k q b }
 {
-    let rows = power_of_two(k);
-    let mut made: u64 = 0;
-    for i in 0..rows {
-        made = join(bit_at(p, insert_bit(q, b, i)), i, made);
-    }
-    made
+    made_from(p, power_of_two(k), |i| insert_bit(q, b, i))
 }
 
 // Inner: of a program over k + 1 operands, does no row pair depend on the operand at row bit `q`? Its two cofactors
@@ -79,10 +86,5 @@ pub fn swapped(p: u64, k: u64, pos: u64) -> u64
     requires { (k ≤ 6) × (pos + 1 < k) }
     ensures { result ≡ meant.table (λ i. bit_at p (meant.swap_bits pos i)) (2 ^ k) }
 {
-    let rows = power_of_two(k);
-    let mut made: u64 = 0;
-    for i in 0..rows {
-        made = join(bit_at(p, swap_bits(pos, i)), i, made);
-    }
-    made
+    made_from(p, power_of_two(k), |i| swap_bits(pos, i))
 }

@@ -5,6 +5,7 @@
 #![tactic(auto)]
 
 mod inputs;
+mod range;
 
 ghost use Rattle.std.specs.Prelude.{◌≡◌};
 ghost use Rattle.meaning.specs.Rules.Tables.{lut_bit_says, bit_vector_says, removed_says, table_program_says, cofactors_say};
@@ -12,19 +13,22 @@ ghost use Rattle.meaning.specs.Rules.Tables.{eval_lut, eval_lut_bv, to_bitvec, r
 
 use bits::word_fits;
 use inputs::eval_read;
-use meaning::{BitVector, Cofactors, LutBit, Removed, TableProgram};
+use meaning::{BitVector, Cofactors, OutOfRange};
+use range::in_range;
 use table_rows::{cofactor, half, ignores, swapped, table_fits};
 
 // The bit of program `p` at the row that the input bytes are, the first the high row bit. At most six bytes, of 0 or 1;
 // any program, since every row number of six bits is a bit of a word (document 01, "any p").
-pub fn eval_lut(p: u64, inputs: &[u8]) -> LutBit
+#[tactic(auto, unfolding(meaning::specs::Rules::Tables::eval_lut))]
+pub fn eval_lut(p: u64, inputs: &[u8]) -> Result<bool, OutOfRange>
     ensures { lut_bit_says result ≡ eval_lut p inputs.now }
 {
     eval_read(p, inputs, true)
 }
 
 // The same with the first input the low row bit.
-pub fn eval_lut_bv(p: u64, inputs: &[u8]) -> LutBit
+#[tactic(auto, unfolding(meaning::specs::Rules::Tables::eval_lut_bv))]
+pub fn eval_lut_bv(p: u64, inputs: &[u8]) -> Result<bool, OutOfRange>
     ensures { lut_bit_says result ≡ eval_lut_bv p inputs.now }
 {
     eval_read(p, inputs, false)
@@ -32,79 +36,62 @@ pub fn eval_lut_bv(p: u64, inputs: &[u8]) -> LutBit
 
 // A program as a bit vector: its width, and its bits as one word. Capacity 64 takes every program, and 0 only program 0
 // (document 01, "capacity 0 takes only 0").
-pub fn to_bitvec(p: u64, capacity: u64) -> BitVector
+#[tactic(auto, unfolding(meaning::specs::Rules::Tables::to_bitvec))]
+pub fn to_bitvec(p: u64, capacity: u64) -> Result<BitVector, OutOfRange>
     ensures { bit_vector_says result ≡ to_bitvec p capacity }
 {
-    if word_fits(p, capacity) {
-        return BitVector::Bits {
-            width: capacity,
-            value: p,
-        };
-    }
-    BitVector::OutOfRange
+    in_range(word_fits(p, capacity))?;
+    Ok(BitVector {
+        width: capacity,
+        value: p,
+    })
 }
 
 // The program without its least significant operand, where no row pair depends on it. Below two operands the answer is
-// Nothing before `p` is looked at (document 01, "this comes first").
-pub fn remove_lsb_var(p: u64, k: u64) -> Removed
+// None before `p` is looked at (document 01, "this comes first").
+#[tactic(auto, unfolding(meaning::specs::Rules::Tables::remove_lsb_var))]
+pub fn remove_lsb_var(p: u64, k: u64) -> Result<Option<u64>, OutOfRange>
     ensures { removed_says result ≡ remove_lsb_var p k }
 {
     if k < 2 {
-        return Removed::Nothing;
+        return Ok(None);
     }
-    if !table_fits(p, k) {
-        return Removed::OutOfRange;
-    }
+    in_range(table_fits(p, k))?;
     if !ignores(p, k - 1, 0) {
-        return Removed::Nothing;
+        return Ok(None);
     }
-    Removed::Smaller(cofactor(p, k - 1, 0, 0))
+    Ok(Some(cofactor(p, k - 1, 0, 0)))
 }
 
 // The program with its most significant operand, row bit `msb`, tied to `v`. The range is tested before msb + 1 is formed,
 // so that no msb wraps. The program is what must fit, and msb 5 is in range: the Rust asserts on msb itself, and panics at 5
 // (document 01, "Slips").
-pub fn eval_lut_const_input(p: u64, msb: u64, v: bool) -> TableProgram
+#[tactic(auto, unfolding(meaning::specs::Rules::Tables::eval_lut_const_input))]
+pub fn eval_lut_const_input(p: u64, msb: u64, v: bool) -> Result<u64, OutOfRange>
     ensures { table_program_says result ≡ eval_lut_const_input p msb v }
 {
-    if msb > 5 {
-        return TableProgram::OutOfRange;
-    }
-    if !table_fits(p, msb + 1) {
-        return TableProgram::OutOfRange;
-    }
-    TableProgram::Program(half(p, msb, v))
+    in_range(msb <= 5 && table_fits(p, msb + 1))?;
+    Ok(half(p, msb, v))
 }
 
 // Both halves: the programs with the most significant operand tied to 1 and to 0 (document 01, "high then low").
-pub fn cofactors_in_msb(p: u64, k: u64) -> Cofactors
+#[tactic(auto, unfolding(meaning::specs::Rules::Tables::cofactors_in_msb))]
+pub fn cofactors_in_msb(p: u64, k: u64) -> Result<Cofactors, OutOfRange>
     ensures { cofactors_say result ≡ cofactors_in_msb p k }
 {
-    if k < 2 {
-        return Cofactors::OutOfRange;
-    }
-    if !table_fits(p, k) {
-        return Cofactors::OutOfRange;
-    }
-    Cofactors::Pair {
+    in_range(k >= 2 && table_fits(p, k))?;
+    Ok(Cofactors {
         high: half(p, k - 1, true),
         low: half(p, k - 1, false),
-    }
+    })
 }
 
 // The program with the operands at row bits `pos` and `pos + 1` exchanged, counted from the low end. pos + 1 is formed
 // below k only, so that no pos wraps.
-pub fn swap_pos(p: u64, k: u64, pos: u64) -> TableProgram
+#[tactic(auto, unfolding(meaning::specs::Rules::Tables::swap_pos))]
+pub fn swap_pos(p: u64, k: u64, pos: u64) -> Result<u64, OutOfRange>
     ensures { table_program_says result ≡ swap_pos p k pos }
 {
-    if !table_fits(p, k) {
-        return TableProgram::OutOfRange;
-    }
-    if pos >= k {
-        return TableProgram::OutOfRange;
-    }
-    if pos + 1 == k {
-        return TableProgram::OutOfRange;
-    }
-    TableProgram::Program(swapped(p, k, pos))
+    in_range(table_fits(p, k) && pos < k && pos + 1 < k)?;
+    Ok(swapped(p, k, pos))
 }

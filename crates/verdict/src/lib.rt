@@ -6,7 +6,7 @@
 ghost use Rattle.std.specs.Prelude.{◌≡◌};
 ghost use Rattle.meaning.specs.Rules.Verdict as rules;
 
-use meaning::{Check, Decision};
+use meaning::Check;
 
 // ---- constructors
 
@@ -33,31 +33,19 @@ pub fn inconclusive() -> Check
 pub fn is_equiv(c: Check) -> bool
     ensures { result ≡ rules.is_equiv c }
 {
-    match c {
-        Check::Equiv => true,
-        Check::NotEquiv => false,
-        Check::Inconclusive => false,
-    }
+    matches!(c, Check::Equiv)
 }
 
 pub fn is_not_equiv(c: Check) -> bool
     ensures { result ≡ rules.is_not_equiv c }
 {
-    match c {
-        Check::Equiv => false,
-        Check::NotEquiv => true,
-        Check::Inconclusive => false,
-    }
+    matches!(c, Check::NotEquiv)
 }
 
 pub fn is_inconclusive(c: Check) -> bool
     ensures { result ≡ rules.is_inconclusive c }
 {
-    match c {
-        Check::Equiv => false,
-        Check::NotEquiv => false,
-        Check::Inconclusive => true,
-    }
+    matches!(c, Check::Inconclusive)
 }
 
 pub fn is_conclusive(c: Check) -> bool
@@ -68,14 +56,14 @@ pub fn is_conclusive(c: Check) -> bool
 
 // ---- the decision
 
-// Stands for `unwrap` and `expect`, which panic where this answers Undecided (document 01, "Port order and changes of
-// shape").
-pub fn decided(c: Check) -> Decision
+// Whether they are equivalent, or None where that is undecided. Stands for `unwrap` and `expect`, which panic there
+// (document 01, "Port order and changes of shape").
+pub fn decided(c: Check) -> Option<bool>
     ensures { result ≡ rules.decided c }
 {
     match c {
-        Check::Equiv => Decision::Yes,
-        Check::NotEquiv => Decision::No,
-        Check::Inconclusive => Decision::Undecided,
+        Check::Equiv => Some(true),
+        Check::NotEquiv => Some(false),
+        Check::Inconclusive => None,
     }
 }

@@ -5,11 +5,12 @@
 ghost use Rattle.std.specs.Prelude.{◌≡◌, length, leb};
 ghost use Rattle.meaning.specs.Rules.Verdict as rules;
 
-use meaning::{Check, Written};
+use meaning::{Check, TooShort};
 
-// Stands for `Display`: the verdict's name at the start of the lent slice. Where the slice is too short for the whole
+// Stands for `Display`: the verdict's name at the start of the lent slice, and how many bytes it has. Where the slice is too short for the whole
 // name, nothing is written and the answer is number 19 (document 01, "Numbers a call answers with").
-pub fn display(c: Check, out: &mut [u8]) -> Written
+#[tactic(auto, unfolding(meaning::specs::Rules::Verdict::display))]
+pub fn display(c: Check, out: &mut [u8]) -> Result<u64, TooShort>
     ensures { rules.displayed result out.new ≡ rules.display c out.old }
 {
     match c {
@@ -19,13 +20,13 @@ pub fn display(c: Check, out: &mut [u8]) -> Written
     }
 }
 
-fn write_name(name: &[u8], out: &mut [u8]) -> Written
+fn write_name(name: &[u8], out: &mut [u8]) -> Result<u64, TooShort>
     ensures { rules.displayed result out.new ≡ rules.display_of (leb (length name.now) (length out.old)) name.now out.old }
 {
-    if out.len() < name.len() {
-        return Written::TooShort;
-    }
     let count = name.len();
+    if out.len() < count {
+        return Err(TooShort);
+    }
     out[..count].copy_from_slice(name);
-    Written::Bytes(count as u64)
+    Ok(count as u64)
 }

@@ -10,8 +10,8 @@ use Rattle.meaning.specs.Rules.Verification.{verification}
 use Rattle.columns.specs.Columns.{mark_column, shape_column, with_column}
 use Rattle.columns.specs.ColumnLaws.{with_none, with_length, with_column_lem, with_other_column}
 use Rattle.lists.specs.Laid.{Laid}
-use Rattle.shapes.specs.Shapes.{shape_at}
-use Rattle.search.specs.Search.{Marked, Shaped}
+use Rattle.shapes.specs.Shapes.{shape_at, Shaped}
+use Rattle.marks.specs.Marked.{Marked}
 
 module _ (ns ps : List ℕ) (base : ℕ) where
   -- column MARK of every node, column SHAPE of every node; all else as it was

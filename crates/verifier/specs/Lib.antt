@@ -4,3 +4,5 @@ pub mod Left
 pub mod Outcome
 -- what a caller of `sound` may rely on, column by column
 pub mod Held
+-- the row of tests 3 to 8 by what the code answers
+pub mod Answered

@@ -1,5 +1,5 @@
 -- The row of tests, and the verifier's call, way by way: what is answered, and what the work space holds.
-use Rattle.std.specs.Prelude.{ℕ, ◌<◌, ◌≡◌, ◌≢◌, List, [], ◌∷◌, length}
+use Rattle.std.specs.Prelude.{ℕ, ◌<◌, ◌≡◌, ◌≢◌, List, [], ◌∷◌, length, Ok, Err}
 use Rattle.std.proofs.Math.Path.{refl, ap, ap₂}
 use Rattle.std.proofs.Common.{sym, ◌∙◌, arith, eqb-true, eq-eqb}
 use Rattle.meaning.specs.declared.Refusal.{Refusal}
@@ -7,15 +7,17 @@ use Rattle.meaning.specs.Rules.Trees.{node_count}
 use Rattle.meaning.specs.Rules.Numbers.{no_root}
 use Rattle.meaning.specs.Rules.Lent.{cleared}
 use Rattle.meaning.specs.Rules.Refusals.{refuse, ◌then◌, at_lowest, work_after}
+use Rattle.meaning.specs.Rules.Refusals as refusals
 use Rattle.meaning.specs.Rules.Layout.{sizes, work_for, room, layout_fault, layout}
 use Rattle.meaning.specs.Rules.Verification.{verify_fault, verification}
 use Rattle.meaning.specs.Rules.Evaluable.{rooted, shape_fault, evaluability, sound}
-use Rattle.meaning.specs.Rules.Calls.{verify_refusal, verified, verify}
+use Rattle.meaning.specs.Rules.Calls.{verify_refusal, verified, Verified, verify}
 use Rattle.meaning.specs.Claims.Terms.{Says}
-use Rattle.meaning.proofs.Laws.RefusalLaws.{then_first, work_cleared}
+use Rattle.meaning.proofs.Laws.RefusalLaws.{then_first, work_cleared, answered_refused, done_of_ok, refused_of_err}
 use Rattle.meaning.proofs.Laws.NumberLaws.{then_go, then_stop, then_joined, then_says, never}
 use Rattle.meaning.proofs.Laws.ColumnLaws.{layout_says, verification_says, rooted_passed}
-use Rattle.sizes.specs.Lent.{lent_row, lent_keeps}
+use Rattle.sizes.specs.Lent.{lent_row, lent_room, lent_keeps}
+use Rattle.columns.specs.ColumnLaws.{cleared_alike}
 
 module _ (ns ps : List ℕ) where
   -- ---- each test is a search
@@ -93,3 +95,27 @@ module _ (ns ps : List ℕ) where
 
         swept : work_after to_six work ≡ cleared work
         swept = work_cleared to_six work (never says 1 refl) (never says 2 refl) (never says 10 refl)
+
+    -- ---- the same of what the code answers
+    module _ (e : Refusal) (stop : refusals.answered lent ≡ Err e) where
+      stopped : verified lent work ≡ verify ns ps work
+      stopped = refused_lent (refused_of_err lent e stop).1
+
+      pub lent_answer : Err e ≡ refusals.answered (verify ns ps work).answer
+      lent_answer = sym stop ∙ ap (λ (x : Verified). refusals.answered x.answer) stopped
+
+      pub lent_work : work ≡ (verify ns ps work).work
+      lent_work = ap (λ (x : Verified). x.work) stopped
+
+    module _ (go : refusals.answered lent ≡ Ok tt) where
+      rest_whole : verified to_six (cleared work) ≡ verify ns ps work
+      rest_whole = answered (done_of_ok lent go)
+
+      pub rest_answers : refusals.answered to_six ≡ refusals.answered (verify ns ps work).answer
+      rest_answers = ap (λ (x : Verified). refusals.answered x.answer) rest_whole
+
+      pub rest_works : cleared work ≡ (verify ns ps work).work
+      rest_works = ap (λ (x : Verified). x.work) rest_whole
+
+-- what the proof of the call rests on
+pub ruleset call = (lent_answer, lent_work, rest_answers, rest_works, lent_room, cleared_alike)

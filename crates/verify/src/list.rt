@@ -4,7 +4,6 @@ ghost use Rattle.list_room.specs.Written.{work_room, Taken};
 
 use list_room::written::work_room;
 use meaning::Refusal;
-use meaning::numbers::DONE;
 use refusal_text::write_refusal;
 use sizes::work_for;
 use std::io;
@@ -16,15 +15,14 @@ pub(crate) fn verify<W: Write>(out: &mut W, nodes: &[u32], pool: &[u32]) -> io::
     requires { Taken nodes.now pool.now }
 {
     let mut work = work_room();
-    let refusal = answered(nodes, pool, &mut work);
-    if refusal.number == DONE {
-        return out.write_all(b"verifies\n");
+    match answered(nodes, pool, &mut work) {
+        Ok(()) => out.write_all(b"verifies\n"),
+        Err(refusal) => write_refusal(out, refusal),
     }
-    write_refusal(out, refusal)
 }
 
 // Lends of the work space exactly what number 10 asks.
-fn answered(nodes: &[u32], pool: &[u32], work: &mut [u64]) -> Refusal
+fn answered(nodes: &[u32], pool: &[u32], work: &mut [u64]) -> Result<(), Refusal>
     requires taken { Taken nodes.now pool.now }
     requires work_room_in_bounds { work_room ≤ length work.old }
 {

@@ -1,18 +1,14 @@
--- `is_within` meets its contract. The invariant: the words from this place on are within where the whole row is.
-use mathlib.Core.Path.{refl, sym, ◌∙◌}
-use Prim.Native.Nat.{◌-◌}
-use native.Mathlib.Omega.{arith}
-use Rattle.case_rows.specs.CaseRows.{within_more, within_stop, within_whole}
+-- `is_within` meets its contract: the words side by side with the largest.
+use Rattle.std.proofs.Common.{rules, ◌∙◌}
+use Rattle.std.specs.Prelude.{leb}
+use Rattle.std.proofs.lemmas.Iterator.{YieldsList-from_slice, YieldsList-from_zip}
+use Rattle.std.proofs.lemmas.Iterator.Search.{all_from_yields_List}
+use Rattle.case_rows.specs.CaseRows.{within_zip}
 use Rattle.case_rows.proofs.is_within.Goals as goal
 
-pub loop-place-init : goal.loop-place-init
-loop-place-init c = (refl, refl)
-
-pub returns-then-row-place : goal.returns-then-row-place
-returns-then-row-place c = sym (within_stop c.args.row.now c.args.largest.now c.loop-place.place (omega arith) (omega (arith, c.requires)) c.if-row-place.true) ∙ c.loop-place.invariant.1
-
-pub loop-place-preserved : goal.loop-place-preserved
-loop-place-preserved c = (c.loop-place.invariant.0, sym (within_more c.args.row.now c.args.largest.now c.loop-place.place (omega arith) (omega (arith, c.requires)) c.if-row-place.false) ∙ c.loop-place.invariant.1)
-
 pub returns : goal.returns
-returns c = sym (within_whole c.args.row.now c.args.largest.now c.loop-place.place (omega arith)) ∙ c.loop-place.invariant.1
+returns c =
+    let words = YieldsList-from_slice {s = c.zip.result.a} c.args.row.now (cc) in
+    let most = YieldsList-from_slice {s = c.zip.result.b} c.args.largest.now (cc) in
+    all_from_yields_List (λ p. leb p.0 p.1) c.all.new.self _ _ c.all.ensures.ran (YieldsList-from_zip {s = c.zip.result} words most) (λ x b q k. search rules)
+    ∙ within_zip c.args.row.now c.args.largest.now c.requires

@@ -36,7 +36,7 @@ lowest_alike-requires c =
     let j : ℕ = c.args.j in
     let work : List ℕ = c.args.work.now in
     let mark : c.get.result ≡ mark_of ms qs j = c.get.ensures ∙ c.requires.filled.list.marks j c.requires.filled.inside in
-    let most : c.lower-limit.result ≡ limit_at ns base j = c.lower-limit.ensures ∙ ap (min (base + j)) c.node_count-n.ensures in
+    let most : c.min-limit.result ≡ limit_at ns base j = omega (arith, c.node_count-n.ensures) in
     let marked : 0 < mark_of ms qs j = omega (arith, mark, c.if-get-eq0.false) in
     record {
       filled = subst (λ (x : ℕ). Filled ns ps x ms qs base j work) (sym most) c.requires.filled;
@@ -52,6 +52,6 @@ returns c =
     let base : ℕ = c.args.base in
     let j : ℕ = c.args.j in
     let mark : c.get.result ≡ mark_of ms qs j = c.get.ensures ∙ c.requires.filled.list.marks j c.requires.filled.inside in
-    let most : c.lower-limit.result ≡ limit_at ns base j = c.lower-limit.ensures ∙ ap (min (base + j)) c.node_count-n.ensures in
+    let most : c.min-limit.result ≡ limit_at ns base j = omega (arith, c.node_count-n.ensures) in
     let marked : 0 < mark_of ms qs j = omega (arith, mark, c.if-get-eq0.false) in
     c.lowest_alike.ensures ∙ ap (lowest (has_tree ns ps (tree_of ms qs j))) most ∙ c.requires.enough marked

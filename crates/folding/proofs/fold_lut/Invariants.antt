@@ -1,5 +1,4 @@
 -- `fold_lut` meets its contract: each turn leaves a Lut that folds to the same tree (`Folding`).
-use Prim.Native.Nat.{◌-◌}
 use Rattle.folding.specs.FoldedLaws.{Folding}
 use Rattle.folding.proofs.fold_lut.Given as goal
 

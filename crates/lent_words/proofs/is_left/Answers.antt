@@ -1,19 +1,16 @@
--- `is_left` meets its contract. The invariant: the words from this place on are judged as the whole is.
-use Rattle.lent_words.specs.LentLaws.{left_more, left_stop, left_whole}
-use Rattle.lent_words.specs.Lent.{wide}
-use native.Mathlib.Omega.{arith}
-use Prim.Native.Nat.{◌-◌}
-use mathlib.Core.Path.{refl, sym, ◌∙◌}
+-- `is_left` meets its contract: the words are looked through with their places.
+use Rattle.std.proofs.Common.{rules, ◌∙◌}
+use Rattle.std.proofs.lemmas.Iterator.{YieldsList-from_slice}
+use Rattle.std.proofs.lemmas.Iterator.Adapters.{YieldsList-from_skip}
+use Rattle.std.proofs.lemmas.Iterator.Consumers.{YieldsList-from_enumerate}
+use Rattle.std.proofs.lemmas.Iterator.Search.{all_from_yields_List}
+use Rattle.lent_words.specs.LentLaws.{looked_through}
 use Rattle.lent_words.proofs.is_left.Goals as goal
 
-pub loop-place-init : goal.loop-place-init
-loop-place-init c = (refl, refl)
-
-pub returns-then-words-place : goal.returns-then-words-place
-returns-then-words-place c = sym (left_stop wide c.args.words.now c.args.cleared c.loop-place.place (omega arith) (λ e. c.if-words-place.true (e ∙ sym c.after.ensures))) ∙ c.loop-place.invariant.1
-
-pub loop-place-preserved : goal.loop-place-preserved
-loop-place-preserved c = (c.loop-place.invariant.0, sym (left_more wide c.args.words.now c.args.cleared c.loop-place.place (omega arith) (c.if-words-place.false ∙ c.after.ensures)) ∙ c.loop-place.invariant.1)
-
 pub returns : goal.returns
-returns c = sym (left_whole wide c.args.words.now c.args.cleared c.loop-place.place (omega arith)) ∙ c.loop-place.invariant.1
+returns g c =
+    let words = YieldsList-from_slice {s = c.skip.result.iter.iter} c.args.words.now (cc) in
+    let places = YieldsList-from_enumerate {s = c.skip.result.iter} words (cc) in
+    let looked = YieldsList-from_skip {s = c.skip.result} c.args.from places c.skip.ensures.count in
+    all_from_yields_List (λ p. g.W.PartialEq.eq p.1 (g.W.LentWord.after c.args.cleared p.0)) _ _ _ c.all.ensures.ran looked (λ x b q k. search rules)
+    ∙ looked_through g.W.PartialEq.eq (g.W.LentWord.after c.args.cleared) c.args.from c.args.words.now

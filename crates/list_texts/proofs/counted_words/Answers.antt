@@ -1,15 +1,16 @@
 -- `counted_words` meets its contract: the words are read into the start of the places, where there is room for so many.
-use lib.ListN.{drop, length}
-use Prim.Native.Nat.{ℕ, ◌≤◌}
-use mathlib.Core.List.{List, ◌++◌}
-use mathlib.Core.Path.{ap, ◌≡◌, sym, ◌∙◌}
-use mathlib.Core.Bool.{false}
-use lib.Seq.{length-take-le}
-use lib.Dec.{leb}
-use borrow.Author.Tests.{lt-leb}
+use Rattle.std.proofs.Common.{ℕ, List, ◌++◌, ◌≡◌, ◌≤◌, false, leb, length, take, drop, sym, ap, ◌∙◌, Err}
+use Rattle.std.proofs.lemmas.Bool.{lt-leb}
+use Rattle.std.proofs.lemmas.Result.{err_from_is_err_and}
+use Rattle.list_words.specs.Entries.{filled}
 use Rattle.list_texts.specs.CountedLaws.{counted_whole, counted_bad, filled_start_lem}
 use Rattle.list_texts.specs.Counted.{counted_words, filled_start}
 use Rattle.list_texts.proofs.counted_words.Goals as goal
+
+-- the start that was read into, in front of the rest
+placed : (text old : List ℕ) (count at : ℕ) (new : List ℕ) → count ≤ length old → new ≡ filled text at (take count old)
+    → new ++ drop count old ≡ filled_start text old count at
+placed text old count at new l h = ap (λ xs. xs ++ drop count old) h ∙ sym (filled_start_lem text old count at l)
 
 pub returns-then-count-places : goal.returns-then-count-places
 unfolding counted_words filled_start
@@ -20,21 +21,19 @@ returns-then-count-places c =
       places_after = rw over;
     }
 
-pub slice_bounds-next_entries-end-2 : goal.slice_bounds-next_entries-end-2
-slice_bounds-next_entries-end-2 c = let l : c.args.count ≤ length c.args.places.now = c.if-count-places.false in sym (length-take-le c.args.count c.args.places.now l)
-
-pub returns-in-Whole : goal.returns-in-Whole
-returns-in-Whole c =
+pub returns-in_err-next : goal.returns-in_err-next
+returns-in_err-next c =
     let l : c.args.count ≤ length c.args.places.now = c.if-count-places.false in
+    let p = err_from_is_err_and c.from_residual.result c.from_residual.ensures.1 in
     record {
-      value = sym (counted_whole c.args.text.now c.args.places.now c.args.count c.args.at c.in-Whole.next l (sym c.in-Whole.ensures.value));
-      places_after = ap (λ (xs : List ℕ). xs ++ drop c.args.count c.args.places.now) c.next_entries-reading.ensures.places_after ∙ sym (filled_start_lem c.args.text.now c.args.places.now c.args.count c.args.at l);
+      value = p.1 ∙ ap Err p.2 ∙ sym (counted_bad c.args.text.now c.args.places.now c.args.count c.args.at _ l (sym c.in_err-next.ensures.value));
+      places_after = placed c.args.text.now c.args.places.now c.args.count c.args.at _ l c.in_err-next.ensures.places_after;
     }
 
-pub returns-in-Bad : goal.returns-in-Bad
-returns-in-Bad c =
+pub returns : goal.returns
+returns c =
     let l : c.args.count ≤ length c.args.places.now = c.if-count-places.false in
     record {
-      value = sym (counted_bad c.args.text.now c.args.places.now c.args.count c.args.at c.in-Bad.offset l (sym c.in-Bad.ensures.value));
-      places_after = ap (λ (xs : List ℕ). xs ++ drop c.args.count c.args.places.now) c.next_entries-reading.ensures.places_after ∙ sym (filled_start_lem c.args.text.now c.args.places.now c.args.count c.args.at l);
+      value = sym (counted_whole c.args.text.now c.args.places.now c.args.count c.args.at _ l (sym c.in_ok-next.ensures.value));
+      places_after = placed c.args.text.now c.args.places.now c.args.count c.args.at _ l c.in_ok-next.ensures.places_after;
     }

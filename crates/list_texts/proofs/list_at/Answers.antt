@@ -1,41 +1,48 @@
 -- `list_at` meets its contract: the pool is read from where the node words end, and both counts are within what was lent.
-use Rattle.list_texts.specs.Counted.{list_at, filled_pool, Fits}
+use Rattle.std.proofs.Common.{◌≡◌, length, sym, ap, ◌∙◌, subst, Ok, Err}
+use Rattle.std.proofs.lemmas.Result.{err_from_is_err_and}
+use Rattle.list_texts.specs.Counted.{list_of, list_at, pool_at, filled_pool, Fits}
 use Rattle.list_texts.specs.CountedLaws.{list_fits}
-use lib.ListN.{length}
-use mathlib.Core.Path.{◌≡◌, sym, ◌∙◌, subst}
 use Rattle.list_texts.proofs.list_at.Goals as goal
 
-pub returns-in-Whole : goal.returns-in-Whole
+pub returns-in_err-words : goal.returns-in_err-words
 unfolding list_at filled_pool
-returns-in-Whole c =
-    let h = sym c.in-Whole.ensures.value in
-    let e : c.pool_at.result ≡ list_at c.args.text.now c.args.at (length c.args.nodes.now) (length c.args.pool.now) = c.pool_at.ensures.value ∙ sym (rw h) in
-    let fits = list_fits c.args.text.now c.next_part-part.new.places c.pool_at.new.pool c.args.at (length c.args.nodes.now) (length c.args.pool.now) (sym c.next_part-part.auto.places) (sym c.pool_at.auto.pool) in
+returns-in_err-words c =
+    let h = sym c.in_err-words.ensures.value in
+    let p = err_from_is_err_and c.from_residual.result c.from_residual.ensures.1 in
+    let e = p.1 ∙ ap Err p.2 in
+    record {
+      value = e ∙ sym (rw h);
+      nodes_after = c.in_err-words.ensures.places_after;
+      pool_after = sym (rw h);
+      fits = rw e tt;
+    }
+
+pub returns-in_err-entries : goal.returns-in_err-entries
+unfolding list_at pool_at filled_pool
+returns-in_err-entries c =
+    let h = sym c.in_ok-words.ensures.value in
+    let k = sym c.in_err-entries.ensures.value in
+    let p = err_from_is_err_and c.from_residual-in_err-entries.result c.from_residual-in_err-entries.ensures.1 in
+    let e = p.1 ∙ ap Err p.2 in
+    record {
+      value = e ∙ sym (rw (h, k));
+      nodes_after = c.in_ok-words.ensures.places_after;
+      pool_after = c.in_err-entries.ensures.places_after ∙ sym (rw h);
+      fits = rw e tt;
+    }
+
+pub returns : goal.returns
+unfolding list_at pool_at filled_pool
+returns c =
+    let h = sym c.in_ok-words.ensures.value in
+    let k = sym c.in_ok-entries.ensures.value in
+    let e : Ok (list_of c.in_ok-words.words.count c.in_ok-entries.entries.count c.in_ok-entries.entries.next)
+    ≡ list_at c.args.text.now c.args.at (length c.args.nodes.now) (length c.args.pool.now) = sym (rw (h, k)) in
     record {
       value = e;
-      nodes_after = c.next_part-part.ensures.places_after;
-      pool_after = c.pool_at.ensures.pool_after ∙ sym (rw h);
-      fits = subst (Fits c.next_part-part.new.places c.pool_at.new.pool) (sym e) fits;
-    }
-
-pub returns-in-Bad : goal.returns-in-Bad
-unfolding list_at filled_pool
-returns-in-Bad c =
-    let h = sym c.in-Bad.ensures.value in
-    record {
-      value = sym (rw h);
-      nodes_after = c.next_part-part.ensures.places_after;
-      pool_after = sym (rw h);
-      fits = tt;
-    }
-
-pub returns-in-TooMany : goal.returns-in-TooMany
-unfolding list_at filled_pool
-returns-in-TooMany c =
-    let h = sym c.in-TooMany.ensures.value in
-    record {
-      value = sym (rw h);
-      nodes_after = c.next_part-part.ensures.places_after;
-      pool_after = sym (rw h);
-      fits = tt;
+      nodes_after = c.in_ok-words.ensures.places_after;
+      pool_after = c.in_ok-entries.ensures.places_after ∙ sym (rw h);
+      fits = subst (Fits _ _) (sym e) (list_fits c.args.text.now _ _ c.args.at (length c.args.nodes.now) (length c.args.pool.now)
+          (sym c.next_part.auto.places) (sym c.next_part-2.auto.places));
     }

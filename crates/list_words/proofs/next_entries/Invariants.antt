@@ -6,9 +6,9 @@ use Rattle.list_words.specs.Entries.{entries_from, next_entries, filled}
 use Rattle.list_words.proofs.next_entries.Given as goal
 
 abbrev pub invariant-loop-place : goal.invariant-loop-place
-invariant-loop-place l = (l.place ≤ length l.initial.places) × (l.place-end ≡ length l.initial.places) × (length l.places ≡ length l.initial.places)
-    × (entries_from l.text (length l.initial.places - l.place) l.next ≡ next_entries l.text l.at (length l.initial.places))
-    × (places_after (filled l.text l.next) l.places l.place ≡ filled l.text l.at l.initial.places)
-
-abbrev pub decreases-loop-place : goal.decreases-loop-place
-decreases-loop-place l = l.place-end - l.place
+invariant-loop-place l = record {
+  within : l.place-index ≤ length l.initial.places;
+  as_many : length l.places ≡ length l.initial.places;
+  answer : entries_from l.text (length l.initial.places - l.place-index) l.next ≡ next_entries l.text l.at (length l.initial.places);
+  places : places_after (filled l.text l.next) l.places l.place-index ≡ filled l.text l.at l.initial.places;
+}

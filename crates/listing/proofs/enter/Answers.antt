@@ -1,7 +1,7 @@
 -- `enter` meets its contract: a Program listed, then three stores.
 use Rattle.columns.specs.Columns.{stack_column, next_column, place, number_column}
 use lib.ListN.{set}
-use Prim.Native.Nat.{ℕ, ◌-◌}
+use Prim.Native.Nat.{ℕ}
 use mathlib.Core.List.{List}
 use mathlib.Core.Path.{refl, ap, ◌∙◌}
 use Rattle.listing.proofs.enter.Goals as goal

@@ -2,7 +2,7 @@
 use Rattle.listing.specs.More.{kept_work, kept_count}
 use lib.ListN.{set}
 use Rattle.columns.specs.Columns.{place, number_column}
-use Prim.Native.Nat.{ℕ, ◌+◌, ◌-◌, ◌*◌}
+use Prim.Native.Nat.{ℕ, ◌+◌, ◌*◌}
 use mathlib.Core.List.{List}
 use mathlib.Core.Path.{refl, ap, ◌∙◌}
 use Rattle.listing.proofs.leave.Goals as goal

@@ -3,7 +3,6 @@ use Rattle.listing.specs.Steps.{turns}
 use Rattle.listing.specs.Walk.{Walk}
 use Rattle.meaning.specs.Rules.Trees.{node_count}
 use lib.ListN.{length}
-use Prim.Native.Nat.{◌-◌}
 use mathlib.Core.Path.{◌≡◌}
 use Rattle.listing.proofs.list_subtrees.Given as goal
 

@@ -1,13 +1,9 @@
-use Prim.Native.Nat.{suc, ℕ, ◌<◌, ◌+◌}
-use Rattle.meaning.specs.Rules.Kinds.{cycle_word}
-use lib.Dec.{eqb}
-use mathlib.Core.Bool.{cond}
-use mathlib.Core.Path.{◌≡◌, sym, ap₂, ◌∙◌}
+use Prim.Native.Nat.{ℕ, ◌<◌, ◌+◌}
+use mathlib.Core.Path.{◌≡◌, sym, ap, ap₂, ◌∙◌}
 use mathlib.Core.List.{List}
 use lib.ListN.{length}
 use native.Mathlib.Omega.{arith}
 use Rattle.meaning.specs.Rules.Trees.{children_at}
-use Rattle.lists.specs.Laid.{part_fits}
 use Rattle.columns.specs.Columns.{cell, mark_column}
 use Rattle.marks.specs.Handing.{lowered, handed_on, turn_reached, turn_unreached}
 use Rattle.marks.proofs.hand_on.Goals as goal
@@ -21,16 +17,6 @@ returns-then-mark-eq0 c =
     let work : List ℕ = c.args.work.now in
     let none : cell work mark_column (base + p) ≡ 0 = sym c.get-mark.ensures ∙ c.if-mark-eq0.true in
     sym (turn_unreached ns ps base p work none)
-
-pub handed_on-handed-requires : goal.handed_on-handed-requires
-handed_on-handed-requires c = omega (arith, c.get-mark.ensures, c.requires.p_bound_2)
-
-pub children_of-requires : goal.children_of-requires
-children_of-requires c =
-    record {
-      i_bound = c.requires.p_bound;
-      part_fits = part_fits c.args.nodes.now c.args.pool.now c.args.p c.requires.well_laid;
-    }
 
 pub lower_all-requires : goal.lower_all-requires
 lower_all-requires c =
@@ -52,7 +38,7 @@ returns c =
     let work : List ℕ = c.args.work.now in
     let mark : c.get-mark.result ≡ cell work mark_column (base + p) = c.get-mark.ensures in
     let handed : c.handed_on-handed.result ≡ handed_on ns p (cell work mark_column (base + p)) =
-    c.handed_on-handed.ensures ∙ ap₂ (λ (k m : ℕ). cond (eqb k cycle_word) (suc m) m) c.kind_of.ensures mark in
+    c.handed_on-handed.ensures ∙ ap (handed_on ns p) mark in
     c.lower_all.ensures
     ∙ ap₂ (λ (m : ℕ) (cs : List ℕ). lowered base m cs work) handed c.children_of.ensures
     ∙ sym (turn_reached ns ps base p work (omega (arith, mark)))

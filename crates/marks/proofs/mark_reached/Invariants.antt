@@ -6,6 +6,3 @@ use Rattle.marks.proofs.mark_reached.Given as goal
 
 abbrev pub invariant-loop-p : goal.invariant-loop-p
 invariant-loop-p l = (l.p ≤ node_count l.nodes) × (l.work ≡ marked l.nodes l.pool l.base l.initial.work (l.p - 1))
-
-abbrev pub decreases-loop-p : goal.decreases-loop-p
-decreases-loop-p l = l.p

@@ -1,19 +1,17 @@
 -- "Prove that no second outcome satisfies that statement": for each public routine, two outcomes that both meet its
 -- contract are the same (document 01, "What the contracts owe").
-use Rattle.std.specs.Prelude.{ℕ, ◌≡◌, List, Bool}
+use Rattle.std.specs.Prelude.{ℕ, ◌≡◌, List, Bool, Option, Result}
 use Rattle.std.proofs.Common.{sym, ap, ◌∙◌}
 use Rattle.meaning.specs.declared.Check.{Check}
-use Rattle.meaning.specs.declared.Written.{Written}
 use Rattle.meaning.specs.declared.Refusal.{Refusal}
-use Rattle.meaning.specs.declared.Evaluation.{Evaluation}
-use Rattle.meaning.specs.declared.Comparison.{Comparison}
-use Rattle.meaning.specs.declared.Separation.{Separation}
-use Rattle.meaning.specs.declared.Canonical.{Canonical}
-use Rattle.meaning.specs.declared.LutBit.{LutBit}
+use Rattle.meaning.specs.Rules.Calls.{Evaluation}
+use Rattle.meaning.specs.Rules.Comparison.{Comparison}
+use Rattle.meaning.specs.Rules.Separation.{Separation}
+use Rattle.meaning.specs.Rules.Calls.{Canonical}
+use Rattle.meaning.specs.declared.OutOfRange.{OutOfRange}
 use Rattle.meaning.specs.declared.BitVector.{BitVector}
-use Rattle.meaning.specs.declared.Removed.{Removed}
-use Rattle.meaning.specs.declared.TableProgram.{TableProgram}
 use Rattle.meaning.specs.declared.Cofactors.{Cofactors}
+use Rattle.meaning.specs.declared.TooShort.{TooShort}
 use Rattle.meaning.proofs.Laws.AnswerLaws.{lut_bit_only, bit_vector_only, removed_only, table_program_only, cofactors_only, written_only}
 use Rattle.meaning.specs.Rules.Tables.{lut_bit_says, bit_vector_says, removed_says, table_program_says, cofactors_say, eval_lut, eval_lut_bv, to_bitvec, remove_lsb_var, eval_lut_const_input, cofactors_in_msb, swap_pos}
 use Rattle.meaning.specs.Rules.Verdict.{Displayed, displayed, display}
@@ -54,26 +52,26 @@ canonicalise_only ns ps work out_nodes out_pool p q =
     )
 
 -- ---- the truth-table routines
-pub eval_lut_only : (p : ℕ) (inputs : List ℕ) (r r' : LutBit) → lut_bit_says r ≡ eval_lut p inputs → lut_bit_says r' ≡ eval_lut p inputs → r ≡ r'
+pub eval_lut_only : (p : ℕ) (inputs : List ℕ) (r r' : Result Bool OutOfRange) → lut_bit_says r ≡ eval_lut p inputs → lut_bit_says r' ≡ eval_lut p inputs → r ≡ r'
 eval_lut_only p inputs r r' e f = lut_bit_only r r' (e ∙ sym f)
 
-pub eval_lut_bv_only : (p : ℕ) (inputs : List ℕ) (r r' : LutBit) → lut_bit_says r ≡ eval_lut_bv p inputs → lut_bit_says r' ≡ eval_lut_bv p inputs → r ≡ r'
+pub eval_lut_bv_only : (p : ℕ) (inputs : List ℕ) (r r' : Result Bool OutOfRange) → lut_bit_says r ≡ eval_lut_bv p inputs → lut_bit_says r' ≡ eval_lut_bv p inputs → r ≡ r'
 eval_lut_bv_only p inputs r r' e f = lut_bit_only r r' (e ∙ sym f)
 
-pub to_bitvec_only : (p capacity : ℕ) (r r' : BitVector) → bit_vector_says r ≡ to_bitvec p capacity → bit_vector_says r' ≡ to_bitvec p capacity → r ≡ r'
+pub to_bitvec_only : (p capacity : ℕ) (r r' : Result BitVector OutOfRange) → bit_vector_says r ≡ to_bitvec p capacity → bit_vector_says r' ≡ to_bitvec p capacity → r ≡ r'
 to_bitvec_only p capacity r r' e f = bit_vector_only r r' (e ∙ sym f)
 
-pub remove_lsb_var_only : (p k : ℕ) (r r' : Removed) → removed_says r ≡ remove_lsb_var p k → removed_says r' ≡ remove_lsb_var p k → r ≡ r'
+pub remove_lsb_var_only : (p k : ℕ) (r r' : Result (Option ℕ) OutOfRange) → removed_says r ≡ remove_lsb_var p k → removed_says r' ≡ remove_lsb_var p k → r ≡ r'
 remove_lsb_var_only p k r r' e f = removed_only r r' (e ∙ sym f)
 
-pub eval_lut_const_input_only : (p msb : ℕ) (v : Bool) (r r' : TableProgram)
+pub eval_lut_const_input_only : (p msb : ℕ) (v : Bool) (r r' : Result ℕ OutOfRange)
     → table_program_says r ≡ eval_lut_const_input p msb v → table_program_says r' ≡ eval_lut_const_input p msb v → r ≡ r'
 eval_lut_const_input_only p msb v r r' e f = table_program_only r r' (e ∙ sym f)
 
-pub cofactors_in_msb_only : (p k : ℕ) (r r' : Cofactors) → cofactors_say r ≡ cofactors_in_msb p k → cofactors_say r' ≡ cofactors_in_msb p k → r ≡ r'
+pub cofactors_in_msb_only : (p k : ℕ) (r r' : Result Cofactors OutOfRange) → cofactors_say r ≡ cofactors_in_msb p k → cofactors_say r' ≡ cofactors_in_msb p k → r ≡ r'
 cofactors_in_msb_only p k r r' e f = cofactors_only r r' (e ∙ sym f)
 
-pub swap_pos_only : (p k pos : ℕ) (r r' : TableProgram) → table_program_says r ≡ swap_pos p k pos → table_program_says r' ≡ swap_pos p k pos → r ≡ r'
+pub swap_pos_only : (p k pos : ℕ) (r r' : Result ℕ OutOfRange) → table_program_says r ≡ swap_pos p k pos → table_program_says r' ≡ swap_pos p k pos → r ≡ r'
 swap_pos_only p k pos r r' e f = table_program_only r r' (e ∙ sym f)
 
 -- ---- the verdict: its questions, its decision and its constructors answer what a definition says, and that is one thing
@@ -84,7 +82,7 @@ verdict_only said e f = e ∙ sym f
 pub each_only : {A B : Type 0} (said : A → B) (x : A) {r r' : B} → ((y : A) → r ≡ said y) → ((y : A) → r' ≡ said y) → r ≡ r'
 each_only said x e f = e x ∙ sym (f x)
 
-pub display_only : (c : Check) (out : List ℕ) (r r' : Written) {o o' : List ℕ}
+pub display_only : (c : Check) (out : List ℕ) (r r' : Result ℕ TooShort) {o o' : List ℕ}
     → displayed r o ≡ display c out → displayed r' o' ≡ display c out → (r ≡ r') × (o ≡ o')
 display_only c out r r' p q =
     let e = p ∙ sym q in

@@ -8,7 +8,7 @@ use Rattle.std.proofs.Math.Decide.{dec_lt}
 use borrow.Author.Tests.{leb-true, eqb-true, eqb-false, eq-eqb}
 use Rattle.meaning.specs.declared.Answer.{Answer}
 use Rattle.meaning.specs.declared.Check.TheVariants.{Equiv, NotEquiv, Inconclusive}
-use Rattle.meaning.specs.declared.Comparison.{Comparison}
+use Rattle.meaning.specs.Rules.Comparison.{Comparison}
 use Rattle.meaning.proofs.Laws.BoolLaws.{true_false, and_left, and_right, and_both, not_is_true, not_is_false, or_cases, or_right_false}
 use Rattle.meaning.proofs.Laws.SearchLaws.{IsLowest, lowest_is}
 use Rattle.meaning.specs.Rules.Limits.{most_inputs}

@@ -7,7 +7,7 @@ use Rattle.std.proofs.Math.Bool.{not}
 use Rattle.std.proofs.Math.Decide.{dec_lt}
 use Rattle.meaning.specs.declared.Answer.{Answer}
 use Rattle.meaning.specs.declared.Judgement.TheVariants.{Separate}
-use Rattle.meaning.specs.declared.Separation.{Separation}
+use Rattle.meaning.specs.Rules.Separation.{Separation}
 use Rattle.meaning.proofs.Laws.WordLaws.{bit_above}
 use Rattle.meaning.proofs.Laws.BoolLaws.{true_false, not_is_true, not_is_false}
 use Rattle.meaning.proofs.Laws.SearchLaws.{IsLowest, lowest_is}

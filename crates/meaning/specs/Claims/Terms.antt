@@ -4,8 +4,8 @@ use Rattle.std.specs.Prelude.{ℕ, ◌^◌, ◌<◌, ◌≡◌, ◌↔◌, List,
 use Rattle.meaning.specs.declared.Answer.{Answer}
 use Rattle.meaning.specs.declared.Check.TheVariants.{NotEquiv, Inconclusive}
 use Rattle.meaning.specs.declared.Judgement.TheVariants.{Crossing}
-use Rattle.meaning.specs.declared.Comparison.{Comparison}
-use Rattle.meaning.specs.declared.Separation.{Separation}
+use Rattle.meaning.specs.Rules.Comparison.{Comparison}
+use Rattle.meaning.specs.Rules.Separation.{Separation}
 use Rattle.meaning.specs.declared.Refusal.{Refusal}
 use Rattle.meaning.specs.Rules.Search.{lowest}
 use Rattle.meaning.specs.Rules.Refusals.{refuse}

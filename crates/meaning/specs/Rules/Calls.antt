@@ -3,25 +3,23 @@
 -- slice: Rules/Tables, Rules/Verdict.)
 -- "Order: 1 and 2 for each list, first list first; 10; then list by list 3, 4, 5 .., 6, 7, 8; then 11, 12, 16, 14, the
 -- tree test, 9, 15, and always last 19."
-use Rattle.std.specs.Prelude.{ℕ, ◌+◌, List, Bool, cond, ◌&&◌, length, leb}
+use Rattle.std.specs.Prelude.{ℕ, ◌+◌, List, Bool, cond, ◌&&◌, length, leb, Result, Ok, Err}
 use Rattle.meaning.specs.declared.Refusal.{Refusal}
-use Rattle.meaning.specs.declared.Evaluation.{Evaluation}
-use Rattle.meaning.specs.declared.Comparison.{Comparison}
-use Rattle.meaning.specs.declared.Separation.{Separation}
-use Rattle.meaning.specs.declared.Canonical.{Canonical}
+use Rattle.meaning.specs.declared.Answer.{Answer}
+use Rattle.meaning.specs.declared.Canonical as code
 use Rattle.meaning.specs.Rules.Limits.{most_nodes, most_pool}
 use Rattle.meaning.specs.Rules.Numbers.{bad_assignment, short_output}
 use Rattle.meaning.specs.Rules.Trees.{node_count, root_of}
 use Rattle.meaning.specs.Rules.Answers.{answer, blank}
 use Rattle.meaning.specs.Rules.Lent.{output_after}
-use Rattle.meaning.specs.Rules.Refusals.{◌then◌, require, is_done, work_after}
+use Rattle.meaning.specs.Rules.Refusals.{◌then◌, require, done, is_done, answered_with, work_after}
 use Rattle.meaning.specs.Rules.Layout.{sizes, work_for, room, layout}
 use Rattle.meaning.specs.Rules.Verification.{verification}
 use Rattle.meaning.specs.Rules.Evaluable.{sound}
 use Rattle.meaning.specs.Rules.Assignments.{given, is_assignment}
 use Rattle.meaning.specs.Rules.Pairs.{pair_words, pairs}
-use Rattle.meaning.specs.Rules.Comparison.{few_inputs, compare_trees, comparison_refused}
-use Rattle.meaning.specs.Rules.Separation.{bounded, separate_tree, separation_refused}
+use Rattle.meaning.specs.Rules.Comparison.{Comparison, few_inputs, compare_trees, comparison_refused}
+use Rattle.meaning.specs.Rules.Separation.{Separation, bounded, separate_tree, separation_refused}
 use Rattle.meaning.specs.Rules.Canonical.{gates, canonical_nodes, canonical_pool}
 
 -- ==== verify (000, `verify_expr`): "the verifier's own call ends at 6 and never answers 7 or 8"
@@ -53,6 +51,11 @@ unfoldable pub evaluate_refusal : List ℕ → List ℕ → List ℕ → ℕ →
 evaluate_refusal ns ps bytes work out =
     sizes ns ps then room (work_for ns ps) work then sound ns ps then assigned bytes then fits_pairs ns out
 
+-- what an evaluation answers, refused or not
+pub record Evaluation : Type 0 where
+  pub refusal : Refusal
+  pub answer : Answer
+
 pub record Evaluated : Type 0 where
   pub answer : Evaluation
   pub work : List ℕ
@@ -71,6 +74,10 @@ unfoldable pub evaluate : List ℕ → List ℕ → List ℕ → List ℕ → Li
 evaluate ns ps bytes work out =
     let r = evaluate_refusal ns ps bytes (length work) (length out) in
     evaluated (evaluation r ns ps bytes) (work_after r work) (output_after (is_done r) (pairs ns ps bytes) out)
+
+-- how code answers it: the root's answer, or the refusal
+abbrev pub evaluation_result : Evaluation → Result Answer Refusal
+evaluation_result e = answered_with e.refusal e.answer
 
 -- ==== compare (000, `func_equiv`)
 
@@ -132,6 +139,12 @@ canonical_refusal ns ps work out_nodes out_pool =
     sizes ns ps then room (work_for ns ps) work then sound ns ps then gates ns ps then
     require (fits_lists ns ps out_nodes out_pool) short_output
 
+-- what the canonicaliser answers, refused or not
+pub record Canonical : Type 0 where
+  pub refusal : Refusal
+  pub nodes : ℕ
+  pub pool : ℕ
+
 pub record Canonicalised : Type 0 where
   pub answer : Canonical
   pub work : List ℕ
@@ -153,3 +166,11 @@ canonicalise ns ps work out_nodes out_pool =
     let r = canonical_refusal ns ps (length work) (length out_nodes) (length out_pool) in
     canonicalised (canonical r ns ps) (work_after r work)
     (output_after (is_done r) (canonical_nodes ns ps) out_nodes) (output_after (is_done r) (canonical_pool ns ps) out_pool)
+
+-- how code answers it: how many words of each slice, or the refusal; and what such an answer is, whole
+abbrev pub canonical_result : Canonical → Result code.Canonical Refusal
+canonical_result c = answered_with c.refusal (record { nodes = c.nodes; pool = c.pool })
+
+abbrev pub canonical_said : Result code.Canonical Refusal → Canonical
+canonical_said (Ok c) = record { refusal = done; nodes = c.nodes; pool = c.pool }
+canonical_said (Err r) = record { refusal = r; nodes = 0; pool = 0 }

@@ -1,17 +1,17 @@
 -- Comparison (document 01, "Comparison and separation").
-use Rattle.std.specs.Prelude.{ℕ, ◌^◌, List, Bool, true, false, cond, not, ◌&&◌, ◌||◌, length, leb, eqb}
+use Rattle.std.specs.Prelude.{ℕ, ◌^◌, List, Bool, true, false, cond, not, ◌&&◌, ◌||◌, length, leb, eqb, Result, Ok, Err}
 use Rattle.meaning.specs.declared.Answer.{Answer}
 use Rattle.meaning.specs.declared.Answer.TheVariants.{Value, Failed}
 use Rattle.meaning.specs.declared.Check.{Check}
 use Rattle.meaning.specs.declared.Check.TheVariants.{Equiv, NotEquiv, Inconclusive}
 use Rattle.meaning.specs.declared.Refusal.{Refusal}
-use Rattle.meaning.specs.declared.Comparison.{Comparison}
+use Rattle.meaning.specs.declared.Comparison as code
 use Rattle.meaning.specs.Rules.Limits.{most_inputs}
 use Rattle.meaning.specs.Rules.Numbers.{many_inputs}
 use Rattle.meaning.specs.Rules.Trees.{Tree, same}
 use Rattle.meaning.specs.Rules.Answers.{answer, blank, failure_number}
 use Rattle.meaning.specs.Rules.Search.{lowest}
-use Rattle.meaning.specs.Rules.Refusals.{done, require}
+use Rattle.meaning.specs.Rules.Refusals.{done, require, answered_with}
 use Rattle.meaning.specs.Rules.Assignments.{inputs, drive}
 
 -- ---- answers compared
@@ -53,6 +53,14 @@ deciding_index t u =
 abbrev pub verdict_of : Answer → Answer → Check
 verdict_of x y = cond (is_value x && is_value y) NotEquiv Inconclusive
 
+-- what a comparison answers, refused or not: "the result carries verdict, i and both answers"
+pub record Comparison : Type 0 where
+  pub refusal : Refusal
+  pub verdict : Check
+  pub index : ℕ
+  pub first : Answer
+  pub second : Answer
+
 -- "for Equiv the rest is zero"
 abbrev pub equivalent : Comparison
 equivalent = record { refusal = done; verdict = Equiv; index = 0; first = blank; second = blank }
@@ -70,3 +78,15 @@ compare_trees t u =
 -- "other fields zero (verdict Inconclusive ..)"
 abbrev pub comparison_refused : Refusal → Comparison
 comparison_refused r = record { refusal = r; verdict = Inconclusive; index = 0; first = blank; second = blank }
+
+-- ---- how code answers it: what was found, or the refusal
+abbrev pub found : Comparison → code.Comparison
+found c = record { verdict = c.verdict; index = c.index; first = c.first; second = c.second }
+
+abbrev pub comparison_result : Comparison → Result code.Comparison Refusal
+comparison_result c = answered_with c.refusal (found c)
+
+-- and what such an answer is, whole
+abbrev pub comparison_said : Result code.Comparison Refusal → Comparison
+comparison_said (Ok c) = record { refusal = done; verdict = c.verdict; index = c.index; first = c.first; second = c.second }
+comparison_said (Err r) = comparison_refused r

@@ -1,10 +1,9 @@
 -- The kinds of node (document 01, "The node list").
 use Rattle.std.specs.Prelude.{ℕ, List, [], ◌∷◌, Bool, true, false, ◌&&◌, get_or, ltb, leb, eqb}
 use Rattle.meaning.specs.Rules.Limits.{widest_bus}
-
 -- the four registers are one kind here; the kind WORD, which tells them apart, stays in the tree
-pub data Kind : Type 0 where
-  Const Program DC Var Nor Mux And Xor Not Lut Bus Reg Arg Cycle Unknown : Kind
+pub use Rattle.meaning.specs.declared.kinds.Kind.{Kind}
+pub use Rattle.meaning.specs.declared.kinds.Kind.TheVariants.{Const, Program, DC, Var, Nor, Mux, And, Xor, Not, Lut, Bus, Reg, Arg, Cycle, Unknown}
 
 -- "Kinds, in 000's order: 0 Const, ... 16 Cycle"
 abbrev pub kinds : List Kind

@@ -1,5 +1,5 @@
 -- A refusal, and the order of refusals (document 01, "Numbers a call answers with").
-use Rattle.std.specs.Prelude.{ℕ, List, [], ◌∷◌, Bool, true, false, cond, ◌&&◌, ◌||◌, ltb, eqb}
+use Rattle.std.specs.Prelude.{ℕ, List, [], ◌∷◌, Bool, true, false, cond, ◌&&◌, ◌||◌, ltb, eqb, Result, Ok, Err, ⊤}
 use Rattle.meaning.specs.declared.Refusal.{Refusal}
 use Rattle.meaning.specs.Rules.Numbers.{done_number, not_aligned, over_limit, little_work}
 use Rattle.meaning.specs.Rules.Search.{lowest}
@@ -15,6 +15,22 @@ refuse number i = record { number = number; node = i }
 abbrev pub is_done : Refusal → Bool
 is_done r = eqb r.number done_number
 
+-- how code answers it: Ok where the test is done, with what there is to answer, else an Err that carries the refusal
+abbrev pub answered_with : {A : Type 0} → Refusal → A → Result A Refusal
+answered_with r x = cond (is_done r) (Ok x) (Err r)
+
+abbrev pub answered : Refusal → Result ⊤ Refusal
+answered r = answered_with r tt
+
+-- and what such an answer is as a refusal
+abbrev pub refusal_said : {A : Type 0} → Result A Refusal → Refusal
+refusal_said (Ok x) = done
+refusal_said (Err r) = r
+
+-- the same of a test of one node, which answers a number alone, 0 where the node has no fault
+abbrev pub numbered : ℕ → Result ⊤ ℕ
+numbered n = cond (eqb n done_number) (Ok tt) (Err n)
+
 -- the first refusal in order
 infixr 50 ◌then◌
 abbrev pub ◌then◌ : Refusal → Refusal → Refusal
@@ -23,6 +39,10 @@ r then s = cond (is_done r) s r
 -- a test that names no node
 abbrev pub require : Bool → ℕ → Refusal
 require test number = cond test done (refuse number 0)
+
+-- how code answers such a test, whose number is never 0
+abbrev pub asked : Bool → ℕ → Result ⊤ Refusal
+asked test number = cond test (Ok tt) (Err (refuse number 0))
 
 -- a test node by node: the lowest node below n whose fault is not 0, and that fault
 unfoldable pub at_lowest : ℕ → (ℕ → ℕ) → Refusal

@@ -1,10 +1,10 @@
 -- Separation (document 01, "Comparison and separation").
-use Rattle.std.specs.Prelude.{ℕ, ◌^◌, List, Bool, cond, not, ◌&&◌, ltb, leb, eqb}
+use Rattle.std.specs.Prelude.{ℕ, ◌^◌, List, Bool, cond, not, ◌&&◌, ltb, leb, eqb, Result, Ok, Err}
 use Rattle.meaning.specs.declared.Answer.{Answer}
 use Rattle.meaning.specs.declared.Judgement.{Judgement}
 use Rattle.meaning.specs.declared.Judgement.TheVariants.{Separate, Crossing}
 use Rattle.meaning.specs.declared.Refusal.{Refusal}
-use Rattle.meaning.specs.declared.Separation.{Separation}
+use Rattle.meaning.specs.declared.Separation as code
 use Rattle.meaning.specs.Rules.Limits.{most_inputs}
 use Rattle.meaning.specs.Rules.Numbers.{out_of_bounds}
 use Rattle.meaning.specs.Rules.Kinds.{variable_word}
@@ -12,7 +12,7 @@ use Rattle.meaning.specs.Rules.Words.{bit_at}
 use Rattle.meaning.specs.Rules.Trees.{Tree, node_count, kind_at, first_at}
 use Rattle.meaning.specs.Rules.Answers.{Assignment, answer, blank}
 use Rattle.meaning.specs.Rules.Search.{lowest}
-use Rattle.meaning.specs.Rules.Refusals.{done, require}
+use Rattle.meaning.specs.Rules.Refusals.{done, require, answered_with}
 use Rattle.meaning.specs.Rules.Assignments.{drive, upto}
 use Rattle.meaning.specs.Rules.Comparison.{same_answer}
 
@@ -50,6 +50,14 @@ crosses t n run i =
 unfoldable pub crossing_index : Tree → ℕ → ℕ → ℕ
 crossing_index t n run = lowest (crosses t n run) (2 ^ n)
 
+-- what a separation answers, refused or not
+pub record Separation : Type 0 where
+  pub refusal : Refusal
+  pub judgement : Judgement
+  pub index : ℕ
+  pub run : Answer
+  pub cleared : Answer
+
 -- "for Separate the rest is zero"
 abbrev pub separated : Separation
 separated = record { refusal = done; judgement = Separate; index = 0; run = blank; cleared = blank }
@@ -66,3 +74,15 @@ separate_tree t n run =
 -- "other fields zero (.. judgement Crossing ..)"
 abbrev pub separation_refused : Refusal → Separation
 separation_refused r = record { refusal = r; judgement = Crossing; index = 0; run = blank; cleared = blank }
+
+-- ---- how code answers it: what was found, or the refusal
+abbrev pub found : Separation → code.Separation
+found s = record { judgement = s.judgement; index = s.index; run = s.run; cleared = s.cleared }
+
+abbrev pub separation_result : Separation → Result code.Separation Refusal
+separation_result s = answered_with s.refusal (found s)
+
+-- and what such an answer is, whole
+abbrev pub separation_said : Result code.Separation Refusal → Separation
+separation_said (Ok s) = record { refusal = done; judgement = s.judgement; index = s.index; run = s.run; cleared = s.cleared }
+separation_said (Err r) = separation_refused r

@@ -1,15 +1,8 @@
 -- Truth-table routines (document 01). A program over k operands has 2 ^ k rows; row i is bit i.
-use Rattle.std.specs.Prelude.{ℕ, zero, suc, ◌+◌, ◌-◌, ◌*◌, ◌/◌, ◌%◌, ◌^◌, List, [], ◌∷◌, ◌++◌, take, drop, reverse, Bool, true, cond, not, ◌&&◌, length, ltb, leb, eqb}
-use Rattle.meaning.specs.declared.LutBit.{LutBit}
-use Rattle.meaning.specs.declared.LutBit.TheVariants as lut_bit
+use Rattle.std.specs.Prelude.{ℕ, zero, suc, ◌+◌, ◌-◌, ◌*◌, ◌/◌, ◌%◌, ◌^◌, List, [], ◌∷◌, ◌++◌, take, drop, reverse, Bool, true, cond, not, ◌&&◌, Option, Some, None, Result, Ok, Err, length, ltb, leb, eqb}
+use Rattle.meaning.specs.declared.OutOfRange.{OutOfRange}
 use Rattle.meaning.specs.declared.BitVector.{BitVector}
-use Rattle.meaning.specs.declared.BitVector.TheVariants as bit_vector
-use Rattle.meaning.specs.declared.Removed.{Removed}
-use Rattle.meaning.specs.declared.Removed.TheVariants as removed
-use Rattle.meaning.specs.declared.TableProgram.{TableProgram}
-use Rattle.meaning.specs.declared.TableProgram.TheVariants as table_program
 use Rattle.meaning.specs.declared.Cofactors.{Cofactors}
-use Rattle.meaning.specs.declared.Cofactors.TheVariants as cofactors
 use Rattle.meaning.specs.Rules.Limits.{most_operands}
 use Rattle.meaning.specs.Rules.Numbers.{done_number, bad_table}
 use Rattle.meaning.specs.Rules.Words.{bit_at, word_fits}
@@ -32,30 +25,44 @@ out_of_range = record { number = bad_table; first = 0; second = 0 }
 abbrev pub in_range : Bool → TableAnswer → TableAnswer
 in_range test a = cond test a out_of_range
 
--- each answer type's number and values
-abbrev pub lut_bit_says : LutBit → TableAnswer
-lut_bit_says (lut_bit.Bit b) = says (cond b 1 0) 0
-lut_bit_says lut_bit.OutOfRange = out_of_range
+-- what each kind of answer says where the arguments are in range
+abbrev pub bit_says : Bool → TableAnswer
+bit_says b = says (cond b 1 0) 0
 
--- the width, then the value
-abbrev pub bit_vector_says : BitVector → TableAnswer
-bit_vector_says (bit_vector.Bits w v) = says w v
-bit_vector_says bit_vector.OutOfRange = out_of_range
+abbrev pub program_says : ℕ → TableAnswer
+program_says p = says p 0
 
 -- 0 for the Rust's None; 1, then the program
-abbrev pub removed_says : Removed → TableAnswer
-removed_says (removed.Smaller p) = says 1 p
-removed_says removed.Nothing = says 0 0
-removed_says removed.OutOfRange = out_of_range
+abbrev pub smaller_says : Option ℕ → TableAnswer
+smaller_says (Some p) = says 1 p
+smaller_says None = says 0 0
 
-abbrev pub table_program_says : TableProgram → TableAnswer
-table_program_says (table_program.Program p) = says p 0
-table_program_says table_program.OutOfRange = out_of_range
+abbrev pub width_and_value : BitVector → TableAnswer
+width_and_value v = says v.width v.value
 
 -- "high then low"
-abbrev pub cofactors_say : Cofactors → TableAnswer
-cofactors_say (cofactors.Pair h l) = says h l
-cofactors_say cofactors.OutOfRange = out_of_range
+abbrev pub high_and_low : Cofactors → TableAnswer
+high_and_low c = says c.high c.low
+
+-- the number and the values of an answer, by those of what `Ok` holds
+abbrev pub answer_says : {A : Type 0} → (A → TableAnswer) → Result A OutOfRange → TableAnswer
+answer_says f (Ok x) = f x
+answer_says f (Err e) = out_of_range
+
+abbrev pub lut_bit_says : Result Bool OutOfRange → TableAnswer
+lut_bit_says = answer_says bit_says
+
+abbrev pub bit_vector_says : Result BitVector OutOfRange → TableAnswer
+bit_vector_says = answer_says width_and_value
+
+abbrev pub removed_says : Result (Option ℕ) OutOfRange → TableAnswer
+removed_says = answer_says smaller_says
+
+abbrev pub table_program_says : Result ℕ OutOfRange → TableAnswer
+table_program_says = answer_says program_says
+
+abbrev pub cofactors_say : Result Cofactors OutOfRange → TableAnswer
+cofactors_say = answer_says high_and_low
 
 -- ---- rows
 

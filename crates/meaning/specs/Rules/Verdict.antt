@@ -1,11 +1,8 @@
 -- The verdict (document 002, check.rs): its questions, its decision and its name.
-use Rattle.std.specs.Prelude.{ℕ, List, [], ◌∷◌, Bool, true, false, not, length, leb}
+use Rattle.std.specs.Prelude.{ℕ, List, [], ◌∷◌, Bool, true, false, not, Option, Some, None, Result, Ok, Err, length, leb}
 use Rattle.meaning.specs.declared.Check.{Check}
 use Rattle.meaning.specs.declared.Check.TheVariants.{Equiv, NotEquiv, Inconclusive}
-use Rattle.meaning.specs.declared.Decision.{Decision}
-use Rattle.meaning.specs.declared.Decision.TheVariants.{Yes, No, Undecided}
-use Rattle.meaning.specs.declared.Written.{Written}
-use Rattle.meaning.specs.declared.Written.TheVariants.{Bytes, TooShort}
+use Rattle.meaning.specs.declared.TooShort.{TooShort}
 use Rattle.meaning.specs.Rules.Numbers.{done_number, short_output}
 use Rattle.meaning.specs.Rules.Lent.{output_after}
 
@@ -35,15 +32,15 @@ abbrev pub is_conclusive : Check → Bool
 is_conclusive c = not (is_inconclusive c)
 
 -- ---- "`unwrap` and `expect` become one answer of yes, no or undecided"
-abbrev pub decided : Check → Decision
-decided Equiv = Yes
-decided NotEquiv = No
-decided Inconclusive = Undecided
+abbrev pub decided : Check → Option Bool
+decided Equiv = Some true
+decided NotEquiv = Some false
+decided Inconclusive = None
 
-abbrev pub decision_number : Decision → ℕ
-decision_number Yes = 0
-decision_number No = 1
-decision_number Undecided = 2
+abbrev pub decision_number : Option Bool → ℕ
+decision_number (Some true) = 0
+decision_number (Some false) = 1
+decision_number None = 2
 
 -- ---- "`Display` writes the verdict's name as bytes"
 abbrev pub name_of : Check → List ℕ
@@ -52,13 +49,13 @@ name_of NotEquiv = 78 ∷ 111 ∷ 116 ∷ 69 ∷ 113 ∷ 117 ∷ 105 ∷ 118 ∷
 name_of Inconclusive = 73 ∷ 110 ∷ 99 ∷ 111 ∷ 110 ∷ 99 ∷ 108 ∷ 117 ∷ 115 ∷ 105 ∷ 118 ∷ 101 ∷ []
 
 -- the number that writing answers with, and how many bytes it wrote
-abbrev pub written_number : Written → ℕ
-written_number (Bytes n) = done_number
-written_number TooShort = short_output
+abbrev pub written_number : Result ℕ TooShort → ℕ
+written_number (Ok n) = done_number
+written_number (Err e) = short_output
 
-abbrev pub written_bytes : Written → ℕ
-written_bytes (Bytes n) = n
-written_bytes TooShort = 0
+abbrev pub written_bytes : Result ℕ TooShort → ℕ
+written_bytes (Ok n) = n
+written_bytes (Err e) = 0
 
 -- the whole outcome of writing a verdict's name into a lent slice
 pub record Displayed : Type 0 where
@@ -66,7 +63,7 @@ pub record Displayed : Type 0 where
   pub bytes : ℕ
   pub out : List ℕ
 
-abbrev pub displayed : Written → List ℕ → Displayed
+abbrev pub displayed : Result ℕ TooShort → List ℕ → Displayed
 displayed r out = record { number = written_number r; bytes = written_bytes r; out = out }
 
 abbrev pub display_of : Bool → List ℕ → List ℕ → Displayed

@@ -13,21 +13,21 @@ pub returns-then-kind-gt-VARIABLE : goal.returns-then-kind-gt-VARIABLE
 unfolding datum_at
 returns-then-kind-gt-VARIABLE c =
     let kind : ℕ = kind_at c.args.nodes.now c.args.i in
-    let parent : ltb variable_word kind ≡ true = lt-ltb variable_word kind (omega (arith, c.kind_of-kind.ensures)) in
+    let parent : ltb variable_word kind ≡ true = lt-ltb variable_word kind (omega (arith, c.kind_word-kind.ensures)) in
     rw parent
 
 pub returns-then-kind-ne-PROGRAM : goal.returns-then-kind-ne-PROGRAM
 unfolding datum_at
 returns-then-kind-ne-PROGRAM c =
     let kind : ℕ = kind_at c.args.nodes.now c.args.i in
-    let leaf : ltb variable_word kind ≡ false = le-ltb variable_word kind (omega (arith, c.kind_of-kind.ensures)) in
-    let other : eqb kind program_word ≡ false = ne_eqb kind program_word (λ e. c.if-kind-ne-PROGRAM.true (c.kind_of-kind.ensures ∙ e)) in
+    let leaf : ltb variable_word kind ≡ false = le-ltb variable_word kind (omega (arith, c.kind_word-kind.ensures)) in
+    let other : eqb kind program_word ≡ false = ne_eqb kind program_word (λ e. c.if-kind-ne-PROGRAM.true (c.kind_word-kind.ensures ∙ e)) in
     rw (leaf, other) c.first_of-first.ensures.0
 
 pub returns : goal.returns
 unfolding datum_at
 returns c =
     let kind : ℕ = kind_at c.args.nodes.now c.args.i in
-    let leaf : ltb variable_word kind ≡ false = le-ltb variable_word kind (omega (arith, c.kind_of-kind.ensures)) in
-    let program : eqb kind program_word ≡ true = eq-eqb kind program_word (sym c.kind_of-kind.ensures ∙ c.if-kind-ne-PROGRAM.false) in
+    let leaf : ltb variable_word kind ≡ false = le-ltb variable_word kind (omega (arith, c.kind_word-kind.ensures)) in
+    let program : eqb kind program_word ≡ true = eq-eqb kind program_word (sym c.kind_word-kind.ensures ∙ c.if-kind-ne-PROGRAM.false) in
     c.from_halves.ensures ∙ rw (leaf, program, c.first_of-first.ensures.0, c.count_of.ensures.0)

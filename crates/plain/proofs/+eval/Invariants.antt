@@ -1,10 +1,7 @@
 -- How each function descends, and what the two loops keep. The functions beside `eval_rec` are called at its own node and call it
 -- at a lower one, so its measure is odd and theirs even.
-use Rattle.std.proofs.Common.{◌≡◌, ◌+◌, ◌*◌, ◌<◌, ◌≤◌, length}
-use Rattle.meaning.specs.Rules.Trees.{children_at}
-use Rattle.meaning.specs.Rules.Assignments.{given}
-use Rattle.accepted.specs.Nodes.{answers_at}
-use Rattle.operators.specs.Folds.{RowTo, BusTo}
+use Rattle.std.proofs.Common.{◌+◌, ◌*◌}
+use Rattle.accepted.proofs.Gathered.{LutTo, MembersTo}
 use Rattle.plain.proofs.+eval.Given as goal
 
 abbrev pub decreases-eval_bus : goal.decreases-eval_bus
@@ -22,19 +19,8 @@ decreases-eval_mux l = 2 * l.n
 abbrev pub decreases-eval_rec : goal.decreases-eval_rec
 decreases-eval_rec l = 2 * l.n + 1
 
--- the members up to i
 abbrev pub invariant-eval_bus-loop-i : goal.invariant-eval_bus-loop-i
-invariant-eval_bus-loop-i l = record {
-  inside : l.i ≤ l.count;
-  all : l.count ≡ length (children_at l.nodes l.pool l.n);
-  gathered : BusTo (answers_at l.nodes l.pool (given l.bytes) l.n) l.i l.bus;
-}
+invariant-eval_bus-loop-i l = MembersTo l.nodes l.pool l.bytes l.n l.count l.i l.bus
 
--- the operands from place 1 up to i; the program is at place 0
 abbrev pub invariant-eval_lut-loop-i : goal.invariant-eval_lut-loop-i
-invariant-eval_lut-loop-i l = record {
-  from : 0 < l.i;
-  inside : l.i ≤ l.count;
-  all : l.count ≡ length (children_at l.nodes l.pool l.n);
-  gathered : RowTo (answers_at l.nodes l.pool (given l.bytes) l.n) l.i l.row;
-}
+invariant-eval_lut-loop-i l = LutTo l.nodes l.pool l.bytes l.n l.count l.i l.row

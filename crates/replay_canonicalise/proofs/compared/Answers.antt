@@ -1,4 +1,4 @@
--- `compared` meets its contract: reading the list does not go back, nor past the text's end.
+-- `compared` lends parts that are there.
 use lib.Seq.{length-take-le}
 use mathlib.Core.Path.{sym}
 use native.Mathlib.Omega.{arith}
@@ -9,6 +9,3 @@ slice_bounds-next_written-end g c = sym (length-take-le c.args.expected.listed.w
 
 pub slice_bounds-next_written-end-2 : goal.slice_bounds-next_written-end-2
 slice_bounds-next_written-end-2 g c = sym (length-take-le c.args.expected.listed.entries c.args.out_pool.now (omega (arith, c.if-entries-out_pool.false)))
-
-pub returns-in_ok-judged-in-Read : goal.returns-in_ok-judged-in-Read
-returns-in_ok-judged-in-Read g c = (c.in-Read.ensures.0, c.in-Read.ensures.1, c.in_ok-judged-in-Read.ensures.upper_bound)

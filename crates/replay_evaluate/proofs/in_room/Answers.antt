@@ -22,4 +22,4 @@ pub slice_bounds-bytes-end : goal.slice_bounds-bytes-end
 slice_bounds-bytes-end g c = omega (arith, bytes_fit c.args.row.now c.requires.fits)
 
 pub slice_bounds-tried-end-3 : goal.slice_bounds-tried-end-3
-slice_bounds-tried-end-3 g c = sym (length-take-le (get_or c.args.row.now 2 0) c.byte_room-bytes.result (omega (arith, bytes_fit c.args.row.now c.requires.fits)))
+slice_bounds-tried-end-3 g c = sym (length-take-le (get_or c.args.row.now 2 0) c.room-bytes.result (omega (arith, bytes_fit c.args.row.now c.requires.fits)))

@@ -1,14 +1,8 @@
--- `tried` meets its contract: a case is tried from where its list and bytes end.
+-- `tried` meets its contract: reading what is lent does not go back, nor past the text's end.
+use Rattle.std.proofs.Common.{length, arith}
 use Rattle.replay_report.specs.Turns.{ok_from}
-use lib.ListN.{length}
 use Rattle.replay_evaluate.proofs.tried.Goals as goal
 
-pub with_space-requires : goal.with_space-requires
-with_space-requires g c =
-    record {
-      at_in_bounds = c.in-Whole.ensures.1;
-      fits = c.requires.fits;
-    }
-
-pub returns-in-Whole : goal.returns-in-Whole
-returns-in-Whole g c = ok_from (length c.args.text.now) c.in-Whole.next c.args.at c.with_space.result c.in-Whole.ensures.0 c.with_space.ensures
+pub returns : goal.returns
+returns g c =
+    ok_from (length c.args.text.now) c.in_ok-next.next c.args.at c.with_space.result (omega (arith, c.in_ok-next.ensures.0)) c.with_space.ensures

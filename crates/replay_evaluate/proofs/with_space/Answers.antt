@@ -16,4 +16,4 @@ pub slice_bounds-out-end : goal.slice_bounds-out-end
 slice_bounds-out-end g c = omega (arith, out_fits c.args.row.now c.requires.fits)
 
 pub slice_bounds-called-end-2 : goal.slice_bounds-called-end-2
-slice_bounds-called-end-2 g c = sym (length-take-le (get_or c.args.row.now 4 0) c.out_room-out.result (omega (arith, out_fits c.args.row.now c.requires.fits)))
+slice_bounds-called-end-2 g c = sym (length-take-le (get_or c.args.row.now 4 0) c.room-out.result (omega (arith, out_fits c.args.row.now c.requires.fits)))

@@ -2,7 +2,7 @@
 use Rattle.separator.specs.Judged.{named_length, searchable, drivable}
 use Rattle.meaning.proofs.Laws.RefusalLaws.{bounds_few, bounds_variables, marks_below}
 use Rattle.inputs.specs.Room.{blanks_length}
-use Rattle.meaning.specs.Rules.Separation.{in_bounds, separate_tree}
+use Rattle.meaning.specs.Rules.Separation.{in_bounds, separate_tree, found}
 use Rattle.meaning.specs.Rules.Assignments.{upto}
 use Rattle.meaning.specs.Rules.Trees.{root_of}
 use Rattle.meaning.specs.Rules.Limits.{most_inputs, variable_count}
@@ -95,4 +95,4 @@ returns c =
     let vs : List ℕ = c.name_variables.new.variables in
     let held : n ≤ length vs = omega (arith, c.name_variables.auto.variables, size, few) in
     let named : take n vs ≡ upto n = c.name_variables.ensures in
-    c.searched.ensures ∙ ap (λ (k : ℕ). separate_tree (root_of ns ps) k marks) (named_length ns ps vs n 0 marks held named)
+    c.searched.ensures ∙ ap (λ (k : ℕ). found (separate_tree (root_of ns ps) k marks)) (named_length ns ps vs n 0 marks held named)

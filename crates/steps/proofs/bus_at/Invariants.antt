@@ -1,15 +1,6 @@
--- `bus_at` meets its contract: the loop has folded the members before it (`BusTo`).
-use Rattle.accepted.specs.Nodes.{answers_at}
-use Rattle.operators.specs.Folds.{BusTo}
-use Rattle.meaning.specs.Rules.Assignments.{given}
-use Rattle.meaning.specs.Rules.Trees.{children_at}
-use lib.ListN.{length}
-use Prim.Native.Nat.{◌≤◌, ◌-◌}
-use mathlib.Core.Path.{◌≡◌}
+-- `bus_at` meets its contract: the loop has folded the members before it (`MembersTo`).
+use Rattle.accepted.proofs.Gathered.{MembersTo}
 use Rattle.steps.proofs.bus_at.Given as goal
 
 abbrev pub invariant-loop-i : goal.invariant-loop-i
-invariant-loop-i l = (l.i ≤ l.count) × (l.count ≡ length (children_at l.nodes l.pool l.n)) × BusTo (answers_at l.nodes l.pool (given l.bytes) l.n) l.i l.bus
-
-abbrev pub decreases-loop-i : goal.decreases-loop-i
-decreases-loop-i l = l.count - l.i
+invariant-loop-i l = MembersTo l.nodes l.pool l.bytes l.n l.count l.i l.bus

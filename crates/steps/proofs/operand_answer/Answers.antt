@@ -3,24 +3,11 @@ use Rattle.rows.specs.Rows.{row_shape, row_wide, row_answer}
 use Rattle.meaning.specs.Rules.Evaluable.{shape}
 use Rattle.meaning.specs.Rules.Trees.{tree_of}
 use Rattle.meaning.specs.Rules.Assignments.{given}
-use native.Mathlib.Omega.{arith}
 use mathlib.Core.Path.{◌∙◌}
 use Rattle.steps.proofs.operand_answer.Goals as goal
 
-pub operand-requires : goal.operand-requires
-operand-requires c =
-    record {
-      sound = c.requires.filled.ready.sound;
-      logic = c.requires.logic;
-      operand = c.requires.operand;
-    }
-
-pub answer_at-requires : goal.answer_at-requires
-answer_at-requires c =
-    record {
-      row_in_bounds = omega (arith, c.requires.filled.ready.room, c.operand.ensures.logic.inside);
-      wide = row_wide c.args.nodes.now c.args.pool.now (given c.args.bytes.now) c.args.base c.args.work.now c.args.n c.requires.filled c.operand.result c.operand.ensures.below c.operand.ensures.logic c.operand.ensures.shaped;
-    }
+pub answer_at-requires-clause-wide : goal.answer_at-requires-clause-wide
+answer_at-requires-clause-wide c = row_wide c.args.nodes.now c.args.pool.now (given c.args.bytes.now) c.args.base c.args.work.now c.args.n c.requires.filled c.operand.result c.operand.ensures.below c.operand.ensures.logic c.operand.ensures.shaped
 
 pub returns : goal.returns
 returns c =

@@ -1,46 +1,28 @@
--- `table_rows::cofactor` meets its contract: the loop has made the table of the rows below i.
-use lib.Pow.{pow_mono}
-use mathlib.Core.Path.{◌≡◌, refl, ◌∙◌}
-use Prim.Native.Nat.{◌+◌, ◌-◌, ◌^◌, ◌<◌, ◌≤◌}
-use native.Mathlib.Omega.{arith}
-use Rattle.meaning.specs.Rules.Words.{bit_at}
+-- `table_rows::cofactor` meets its contract: row i of the cofactor is the row of p with the bit put in.
+use Rattle.std.proofs.Common.{◌≡◌, ℕ, ◌+◌, ◌^◌, ◌≤◌, ap, ◌∙◌, rules, arith, pow_mono}
+use Rattle.std.proofs.iter.Serving.{serving}
 use Rattle.meaning.specs.Rules.Tables as meant
-use Rattle.table_rows.specs.RowLaws.{row_room, row_added, insert_lt}
+use Rattle.meaning.specs.Rules.Words.{bit_at}
+use Rattle.table_rows.specs.RowLaws.{insert_lt}
 use Rattle.table_rows.proofs.cofactor.Goals as goal
 
-pub loop-i-init : goal.loop-i-init
-loop-i-init c = (omega arith, refl)
+pub made_from-requires-clause-few : goal.made_from-requires-clause-few
+made_from-requires-clause-few c = omega (arith, pow_mono c.requires.0)
 
-pub insert_bit-requires : goal.insert_bit-requires
-insert_bit-requires c =
+pub made_from-requires-clause-callable : goal.made_from-requires-clause-callable
+made_from-requires-clause-callable c =
     let few : 2 ^ c.args.k ≤ 32 = pow_mono c.requires.0 in
-    (omega arith, c.requires.2, omega arith)
+    search (arith, serving)
 
-pub bit_at-requires : goal.bit_at-requires
-bit_at-requires c =
+pub made_from-requires-clause-within : goal.made_from-requires-clause-within
+made_from-requires-clause-within c i row h e =
+    let is : row ≡ meant.insert_bit c.args.q c.args.b i = search (rules, serving) in
     let most : c.args.k + 1 ≤ 6 = omega arith in
-    let row : c.loop-i.i < 2 ^ c.args.k = omega arith in
-    omega (
-      arith,
-      pow_mono most,
-      insert_lt c.args.k c.args.q c.args.b c.loop-i.i c.requires.1 c.requires.2 row,
-    )
-
-pub join-made-requires : goal.join-made-requires
-join-made-requires c =
-    let few : 2 ^ c.args.k ≤ 32 = pow_mono c.requires.0 in
-    row_room c.args.p (meant.insert_bit c.args.q c.args.b) c.loop-i.i
-    c.insert_bit.ensures c.bit_at.ensures c.loop-i.invariant.1 (omega arith)
-
-pub loop-i-preserved : goal.loop-i-preserved
-loop-i-preserved c = (
-  omega arith,
-  c.join-made.ensures ∙ row_added c.args.p (meant.insert_bit c.args.q c.args.b) c.loop-i.i
-      c.insert_bit.ensures c.bit_at.ensures c.loop-i.invariant.1,
-)
+    omega (arith, pow_mono most, insert_lt c.args.k c.args.q c.args.b i c.requires.1 c.requires.2 (omega arith))
 
 pub returns : goal.returns
 unfolding meant.cofactor
 returns c =
-    let all : c.loop-i.i ≡ 2 ^ c.args.k = omega arith in
-    rw all at c.loop-i.invariant.1
+    let g : ℕ → ℕ = meant.insert_bit c.args.q c.args.b in
+    c.made_from.ensures g (λ i r h e. search (rules, serving))
+    ∙ ap (meant.table (λ i. bit_at c.args.p (g i))) c.power_of_two.ensures

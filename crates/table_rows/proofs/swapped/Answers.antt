@@ -1,41 +1,27 @@
--- `table_rows::swapped` meets its contract: the loop has made the table of the rows below i.
-use lib.Pow.{pow_mono}
-use mathlib.Core.Path.{◌≡◌, refl, ◌∙◌}
-use Prim.Native.Nat.{◌-◌, ◌^◌, ◌<◌, ◌≤◌}
-use native.Mathlib.Omega.{arith}
-use Rattle.meaning.specs.Rules.Words.{bit_at}
+-- `table_rows::swapped` meets its contract: row i is the row of p with the two bits exchanged.
+use Rattle.std.proofs.Common.{◌≡◌, ℕ, ◌^◌, ◌≤◌, ap, ◌∙◌, rules, arith, pow_mono}
+use Rattle.std.proofs.iter.Serving.{serving}
 use Rattle.meaning.specs.Rules.Tables as meant
-use Rattle.table_rows.specs.RowLaws.{row_room, row_added, swap_lt}
+use Rattle.meaning.specs.Rules.Words.{bit_at}
+use Rattle.table_rows.specs.RowLaws.{swap_lt}
 use Rattle.table_rows.proofs.swapped.Goals as goal
 
-pub loop-i-init : goal.loop-i-init
-loop-i-init c = (omega arith, refl)
+pub made_from-requires-clause-few : goal.made_from-requires-clause-few
+made_from-requires-clause-few c = omega (arith, pow_mono c.requires.0)
 
-pub swap_bits-requires : goal.swap_bits-requires
-swap_bits-requires c =
+pub made_from-requires-clause-callable : goal.made_from-requires-clause-callable
+made_from-requires-clause-callable c =
     let few : 2 ^ c.args.k ≤ 64 = pow_mono c.requires.0 in
-    (omega arith, omega arith)
+    search (arith, serving)
 
-pub bit_at-requires : goal.bit_at-requires
-bit_at-requires c =
+pub made_from-requires-clause-within : goal.made_from-requires-clause-within
+made_from-requires-clause-within c i row h e =
     let few : 2 ^ c.args.k ≤ 64 = pow_mono c.requires.0 in
-    let row : c.loop-i.i < 2 ^ c.args.k = omega arith in
-    omega (arith, swap_lt c.args.k c.args.pos c.loop-i.i c.requires.1 row)
-
-pub join-made-requires : goal.join-made-requires
-join-made-requires c =
-    let few : 2 ^ c.args.k ≤ 64 = pow_mono c.requires.0 in
-    row_room c.args.p (meant.swap_bits c.args.pos) c.loop-i.i
-    c.swap_bits.ensures c.bit_at.ensures c.loop-i.invariant.1 (omega arith)
-
-pub loop-i-preserved : goal.loop-i-preserved
-loop-i-preserved c = (
-  omega arith,
-  c.join-made.ensures ∙ row_added c.args.p (meant.swap_bits c.args.pos) c.loop-i.i
-      c.swap_bits.ensures c.bit_at.ensures c.loop-i.invariant.1,
-)
+    let is : row ≡ meant.swap_bits c.args.pos i = search (rules, serving) in
+    omega (arith, few, swap_lt c.args.k c.args.pos i c.requires.1 (omega arith))
 
 pub returns : goal.returns
 returns c =
-    let all : c.loop-i.i ≡ 2 ^ c.args.k = omega arith in
-    rw all at c.loop-i.invariant.1
+    let g : ℕ → ℕ = meant.swap_bits c.args.pos in
+    c.made_from.ensures g (λ i r h e. search (rules, serving))
+    ∙ ap (meant.table (λ i. bit_at c.args.p (g i))) c.power_of_two.ensures

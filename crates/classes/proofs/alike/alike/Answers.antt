@@ -11,14 +11,14 @@ use mathlib.Core.List.{List}
 use mathlib.Core.Path.{◌≡◌, sym, ap, ap₂, ◌∙◌}
 use Rattle.classes.proofs.alike.alike.Goals as goal
 
-pub kind_of-requires : goal.kind_of-requires
-kind_of-requires c = c.requires.i_bound
+pub kind_word-requires : goal.kind_word-requires
+kind_word-requires c = c.requires.i_bound
 
-pub kind_of-requires-2 : goal.kind_of-requires-2
-kind_of-requires-2 c = c.requires.filled.inside
+pub kind_word-requires-2 : goal.kind_word-requires-2
+kind_word-requires-2 c = c.requires.filled.inside
 
-pub returns-then-kind_of : goal.returns-then-kind_of
-returns-then-kind_of c = sym (kinds_differ c.requires.filled c.requires.i_bound (λ e. c.if-kind_of.true (c.kind_of.ensures ∙ e ∙ sym c.kind_of-2.ensures)))
+pub returns-then-kind_word : goal.returns-then-kind_word
+returns-then-kind_word c = sym (kinds_differ c.requires.filled c.requires.i_bound (λ e. c.if-kind_word.true (c.kind_word.ensures ∙ e ∙ sym c.kind_word-2.ensures)))
 
 pub datum_of-requires : goal.datum_of-requires
 datum_of-requires c = c.requires.i_bound
@@ -89,7 +89,7 @@ returns c =
     let work : List ℕ = c.args.work.now in
     let mark : c.get.result ≡ mark_of ns ps i = c.get.ensures ∙ ap (cell work mark_column) (sym (zero-add i)) ∙ c.requires.filled.first.marks i c.requires.i_bound in
     let marked : 0 < mark_of ns ps i = omega (arith, mark, c.if-get-eq0.false) in
-    let kinds : kind_at ns i ≡ kind_at ms j = sym c.kind_of.ensures ∙ c.if-kind_of.false ∙ c.kind_of-2.ensures in
+    let kinds : kind_at ns i ≡ kind_at ms j = sym c.kind_word.ensures ∙ c.if-kind_word.false ∙ c.kind_word-2.ensures in
     let datum : datum_at ns i ≡ datum_at ms j = sym c.datum_of.ensures ∙ c.if-datum_of.false ∙ c.datum_of-2.ensures in
     c.same_classes.ensures
     ∙ ap₂ (same_classes work base) c.children_of-children.ensures c.children_of-others.ensures

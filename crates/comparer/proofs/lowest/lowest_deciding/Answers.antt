@@ -9,7 +9,8 @@ use Rattle.meaning.specs.Rules.Limits.{most_inputs}
 use Rattle.meaning.specs.Rules.Trees.{Tree, root_of}
 use Rattle.meaning.specs.Rules.Assignments.{inputs, drive}
 use Rattle.meaning.specs.Rules.Answers.{Assignment, answer}
-use Rattle.meaning.specs.Rules.Comparison.{agree, decides, assignments, decided_at}
+use Rattle.meaning.specs.declared.Answer.{Answer}
+use Rattle.meaning.specs.Rules.Comparison.{agree, decides, assignments, decided_at, found}
 use Rattle.meaning.proofs.Laws.BoolLaws.{not_is_true, not_is_false}
 use Rattle.meaning.proofs.Laws.SearchLaws.{none_yet, none_next}
 use Rattle.inputs.specs.Driving.{still_undriven}
@@ -74,7 +75,7 @@ returns-then-not-agree c =
     let agreed : c.agree.result ≡ agree (first_answer t u i) (second_answer t u i) = c.agree.ensures ∙ ap₂ agree first second in
     let below : i < assignments t = omega (arith, c.loop-index-test.true, c.loop-index.invariant.1, ap (λ (xs : List ℕ). 2 ^ length xs) named) in
     let differ : agree (first_answer t u i) (second_answer t u i) ≡ false = sym agreed ∙ not_is_true c.agree.result c.if-not-agree.true-raw in
-    c.decided_at.ensures ∙ ap₂ (decided_at i) first second ∙ searched_to t u i below c.loop-index.invariant.6 differ
+    c.decided_at.ensures ∙ ap₂ (λ (x y : Answer). found (decided_at i x y)) first second ∙ ap found (searched_to t u i below c.loop-index.invariant.6 differ)
 
 pub overflow_step-index : goal.overflow_step-index
 overflow_step-index c = omega (arith, c.loop-index-test.true, c.loop-index.invariant.1)
@@ -126,4 +127,4 @@ returns c =
     let u : Tree = root_of ms qs in
     let named : vs ≡ inputs t = c.requires.variables_value in
     let whole : c.loop-index.index ≡ assignments t = omega (arith, c.loop-index-test.false, c.loop-index.invariant.0, c.loop-index.invariant.1, ap (λ (xs : List ℕ). 2 ^ length xs) named) in
-    c.equivalent.ensures ∙ searched_through t u c.loop-index.index whole c.loop-index.invariant.6
+    c.equivalent.ensures ∙ ap found (searched_through t u c.loop-index.index whole c.loop-index.invariant.6)

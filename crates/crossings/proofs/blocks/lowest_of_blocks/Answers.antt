@@ -6,7 +6,7 @@ use Rattle.meaning.specs.Rules.Trees.{Tree, root_of}
 use lib.ListN.{length}
 use native.Mathlib.Omega.{arith}
 use mathlib.Core.Path.{◌≡◌, refl, subst, ◌∙◌}
-use Prim.Native.Nat.{ℕ, ◌-◌}
+use Prim.Native.Nat.{ℕ}
 use Rattle.crossings.proofs.blocks.lowest_of_blocks.Goals as goal
 
 pub next_among-first-requires : goal.next_among-first-requires

@@ -7,9 +7,9 @@ use Rattle.decimals.specs.Rows.{row_from, next_row, filled}
 use Rattle.decimals.proofs.rows.next_row.Given as goal
 
 abbrev pub invariant-loop-place : goal.invariant-loop-place
-invariant-loop-place l = (l.place ≤ length l.initial.row) × (l.place-end ≡ length l.initial.row) × (length l.row ≡ length l.initial.row)
-    × (row_from l.text (end_at l.text l.place) (length l.initial.row - l.place) l.next ≡ next_row l.text l.at (length l.initial.row))
-    × (places_after (filled l.text l.next) l.row l.place ≡ filled l.text l.at l.initial.row)
-
-abbrev pub decreases-loop-place : goal.decreases-loop-place
-decreases-loop-place l = l.place-end - l.place
+invariant-loop-place l = record {
+  within : l.place ≤ length l.initial.row;
+  as_long : length l.row ≡ length l.initial.row;
+  answer : row_from l.text (end_at l.text l.place) (length l.initial.row - l.place) l.next ≡ next_row l.text l.at (length l.initial.row);
+  row : places_after (filled l.text l.next) l.row l.place ≡ filled l.text l.at l.initial.row;
+}

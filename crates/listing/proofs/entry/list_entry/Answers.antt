@@ -1,7 +1,6 @@
 -- `list_entry` meets its contract: an entry is stored where its tree was found nowhere.
 use Rattle.listing.specs.More.{kept_work, kept_count}
 use borrow.Author.Tests.{eq-eqb, ne_eqb}
-use Prim.Native.Nat.{◌-◌}
 use mathlib.Core.Path.{sym, ◌∙◌}
 use Rattle.listing.proofs.entry.list_entry.Goals as goal
 

@@ -12,8 +12,8 @@ use Rattle.long_searches.specs.Accepted.{work_left, accepted_prepares}
 use Rattle.long_searches.specs.Shown.{none_shown, all_shown}
 use Rattle.long_searches.proofs.variables.variables_below.Goals as goal
 
-pub get_input_set-requires : goal.get_input_set-requires
-get_input_set-requires c =
+pub put_input_set-requires : goal.put_input_set-requires
+put_input_set-requires c =
     let ns : List ℕ = c.args.nodes.now in
     let ps : List ℕ = c.args.pool.now in
     let work : List ℕ = c.args.work.now in
@@ -28,14 +28,14 @@ pub returns-then-is_accepted : goal.returns-then-is_accepted
 returns-then-is_accepted c =
     let ns : List ℕ = c.args.nodes.now in
     let ps : List ℕ = c.args.pool.now in
-    let few : c.get_input_set.result ≤ length c.get_input_set.new.variables = omega (arith, c.get_input_set.ensures.upper_bound, c.get_input_set.auto.variables, c.requires.variables_len) in
+    let few : c.put_input_set.result ≤ length c.put_input_set.new.variables = omega (arith, c.put_input_set.ensures.upper_bound, c.put_input_set.auto.variables, c.requires.variables_len) in
     record {
-      starts = (few, sym (length-take-le c.get_input_set.result c.get_input_set.new.variables few));
-      variables_after = c.get_input_set.ensures.variables_after ∙ sym (all_shown ns ps (sym c.is_accepted.ensures.value ∙ c.if-is_accepted.true));
+      starts = (few, sym (length-take-le c.put_input_set.result c.put_input_set.new.variables few));
+      variables_after = c.put_input_set.ensures.variables_after ∙ sym (all_shown ns ps (sym c.is_accepted.ensures.value ∙ c.if-is_accepted.true));
     }
 
-pub returns : goal.returns
-returns c =
+pub returns-else-is_accepted : goal.returns-else-is_accepted
+returns-else-is_accepted c =
     let ns : List ℕ = c.args.nodes.now in
     let ps : List ℕ = c.args.pool.now in
     record {

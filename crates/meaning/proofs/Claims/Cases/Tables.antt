@@ -1,11 +1,6 @@
 -- Cases of Rules/Tables: number 13, and the routines.
-use Rattle.std.specs.Prelude.{◌+◌, ◌^◌, refl, List, [], ◌∷◌, Bool, replicate}
+use Rattle.std.specs.Prelude.{◌+◌, ◌^◌, refl, List, [], ◌∷◌, Bool, Some, None, Ok, Err, replicate}
 use Rattle.std.proofs.Math.Bool as Bool
-use Rattle.meaning.specs.declared.LutBit.TheVariants as lut_bit
-use Rattle.meaning.specs.declared.BitVector.TheVariants as bit_vector
-use Rattle.meaning.specs.declared.Removed.TheVariants as removed
-use Rattle.meaning.specs.declared.TableProgram.TheVariants as table_program
-use Rattle.meaning.specs.declared.Cofactors.TheVariants as cofactors
 use Rattle.meaning.specs.Rules.Search.{lowest}
 use Rattle.meaning.specs.Rules.Tables.{lut_bit_says, bit_vector_says, removed_says, table_program_says, cofactors_say, cofactor, ignores, eval_lut, eval_lut_bv, to_bitvec, remove_lsb_var, eval_lut_const_input, cofactors_in_msb, swap_pos}
 use Rattle.meaning.specs.Claims.Drawn.{Line, ◌is◌, false, true, table, gives, pair, smaller, none_left, number_13, Agree, all_ones, half}
@@ -13,18 +8,18 @@ use Rattle.meaning.specs.Claims.Drawn.{Line, ◌is◌, false, true, table, gives
 unfoldable pub tables : List Line
 tables =
     -- what each answer type says
-    (table (lut_bit_says (lut_bit.Bit Bool.true)) is gives 1)
-    ∷ (table (lut_bit_says (lut_bit.Bit Bool.false)) is gives 0)
-    ∷ (table (lut_bit_says lut_bit.OutOfRange) is number_13)
-    ∷ (table (bit_vector_says (bit_vector.Bits 3 5)) is pair 3 5)
-    ∷ (table (bit_vector_says bit_vector.OutOfRange) is number_13)
-    ∷ (table (removed_says (removed.Smaller 5)) is smaller 5)
-    ∷ (table (removed_says removed.Nothing) is none_left)
-    ∷ (table (removed_says removed.OutOfRange) is number_13)
-    ∷ (table (table_program_says (table_program.Program 5)) is gives 5)
-    ∷ (table (table_program_says table_program.OutOfRange) is number_13)
-    ∷ (table (cofactors_say (cofactors.Pair 3 5)) is pair 3 5)
-    ∷ (table (cofactors_say cofactors.OutOfRange) is number_13)
+    (table (lut_bit_says (Ok Bool.true)) is gives 1)
+    ∷ (table (lut_bit_says (Ok Bool.false)) is gives 0)
+    ∷ (table (lut_bit_says (Err (record {}))) is number_13)
+    ∷ (table (bit_vector_says (Ok (record { width = 3; value = 5 }))) is pair 3 5)
+    ∷ (table (bit_vector_says (Err (record {}))) is number_13)
+    ∷ (table (removed_says (Ok (Some 5))) is smaller 5)
+    ∷ (table (removed_says (Ok None)) is none_left)
+    ∷ (table (removed_says (Err (record {}))) is number_13)
+    ∷ (table (table_program_says (Ok 5)) is gives 5)
+    ∷ (table (table_program_says (Err (record {}))) is number_13)
+    ∷ (table (cofactors_say (Ok (record { high = 3; low = 5 }))) is pair 3 5)
+    ∷ (table (cofactors_say (Err (record {}))) is number_13)
     -- the first input is the high row bit in the one, the low in the other
     ∷ (table (eval_lut 2 (0 ∷ 1 ∷ [])) is gives 1)
     ∷ (table (eval_lut 2 (1 ∷ 0 ∷ [])) is gives 0)

@@ -1,11 +1,6 @@
--- `next_bytes` meets its contract. The invariant: reading has not gone back, nor past the text's end.
-use lib.ListN.{length}
-use Prim.Native.Nat.{◌≤◌, ◌-◌}
-use mathlib.Core.Path.{◌≡◌}
+-- The invariant: reading has not gone back, nor past the text's end.
+use Rattle.std.proofs.Common.{◌≤◌, length}
 use Rattle.replay_evaluate.proofs.inputs.next_bytes.Given as goal
 
 abbrev pub invariant-loop-place : goal.invariant-loop-place
-invariant-loop-place l = (l.place ≤ l.place-end) × (l.place-end ≡ length l.initial.places) × (length l.places ≡ length l.initial.places) × (l.at ≤ l.next) × (l.next ≤ length l.text)
-
-abbrev pub decreases-loop-place : goal.decreases-loop-place
-decreases-loop-place l = l.place-end - l.place
+invariant-loop-place l = (l.at ≤ l.next) × (l.next ≤ length l.text)

@@ -1,17 +1,10 @@
--- `next_pairs` meets its contract. The invariant: reading has not gone back, nor past the text's end.
+-- `next_pairs` meets its contract: a word ends past where reading began.
+use Rattle.std.proofs.Common.{◌≡◌, sym, ◌∙◌, Some, Ok, arith}
 use Rattle.decimals.specs.Claims.{value_ahead}
-use native.Mathlib.Omega.{arith}
-use Prim.Native.Nat.{◌-◌}
-use mathlib.Core.Path.{refl, sym}
 use Rattle.replay_evaluate.proofs.pairs.next_pairs.Goals as goal
 
-pub loop-place-init : goal.loop-place-init
-loop-place-init c = (omega arith, refl, omega arith, c.requires)
-
-pub loop-place-preserved : goal.loop-place-preserved
-loop-place-preserved c =
-    let a = value_ahead c.args.text.now c.loop-place.next _ _ (sym c.in-Value.ensures) in
-    (omega arith, c.loop-place.invariant.1, omega (arith, a.past, c.loop-place.invariant.2), a.within)
-
-pub returns : goal.returns
-returns c = (c.loop-place.invariant.2, c.loop-place.invariant.3)
+pub loop-expected-preserved : goal.loop-expected-preserved
+loop-expected-preserved c =
+    let w : c.next_word.result ≡ Ok (Some c.in-Some.word) = cc in
+    let a = value_ahead c.args.text.now c.loop-expected.next c.in-Some.word.value c.in-Some.word.next (sym c.next_word.ensures ∙ w) in
+    (omega (arith, a.past), a.within)

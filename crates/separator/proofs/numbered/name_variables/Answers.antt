@@ -1,40 +1,24 @@
 -- `name_variables` meets its contract: the first v places hold the numbers below v.
+use Rattle.std.proofs.Common.{ℕ, List, ◌+◌, ◌<◌, ◌≡◌, true, refl, subst, ◌∙◌, length, take, drop, set, arith, length-take-le}
+use Rattle.std.proofs.lemmas.List.{take-append-le}
 use Rattle.inputs.specs.Inputs.{keep_turn}
 use Rattle.meaning.specs.Rules.Assignments.{upto}
-use lib.ListN.{length, take, set, length-set}
-use native.Mathlib.Omega.{arith}
-use mathlib.Core.Bool.{true}
-use mathlib.Core.List.{List}
-use mathlib.Core.Path.{◌≡◌, refl, subst, ◌∙◌}
-use Prim.Native.Nat.{ℕ, ◌+◌, ◌-◌, ◌<◌}
 use Rattle.separator.proofs.numbered.name_variables.Goals as goal
 
 pub loop-v-init : goal.loop-v-init
-loop-v-init c = (omega arith, refl, refl)
-
-pub bounds-variables-v : goal.bounds-variables-v
-bounds-variables-v c = omega (arith, c.loop-v-test.true, c.loop-v.invariant.1, c.requires)
-
-pub overflow_step-v : goal.overflow_step-v
-overflow_step-v c = omega (arith, c.loop-v-test.true)
-
-pub loop-v-smaller : goal.loop-v-smaller
-loop-v-smaller c = omega (arith, c.loop-v-test.true)
+loop-v-init c = refl
 
 pub loop-v-preserved : goal.loop-v-preserved
 loop-v-preserved c =
     let v : ℕ = c.loop-v.v in
-    let vs : List ℕ = c.loop-v.variables in
-    let room : v < length vs = omega (arith, c.loop-v-test.true, c.loop-v.invariant.1, c.requires) in (
-      omega (arith, c.loop-v-test.true),
-      length-set vs v v ∙ c.loop-v.invariant.1,
-      keep_turn true v v (v + 1) refl (λ u. true) vs (set vs v v) refl room refl c.loop-v.invariant.2,
-    )
-
-pub shape_of-variables : goal.shape_of-variables
-shape_of-variables c = c.loop-v.invariant.1
+    let vs : List ℕ = c.loop-v.named in
+    let room : v < length vs = omega (arith, c.loop-v.auto.named, c.loop-v-test.true) in
+    keep_turn true v v (v + 1) refl (λ u. true) vs (set vs v v) refl room refl c.loop-v.invariant
 
 pub returns : goal.returns
 returns c =
-    let whole : c.loop-v.v ≡ c.args.n = omega (arith, c.loop-v-test.false, c.loop-v.invariant.0) in
-    subst (λ (k : ℕ). take k c.loop-v.variables ≡ upto k) whole c.loop-v.invariant.2
+    let n : ℕ = c.args.n in
+    let size : length (take n c.args.variables.now) ≡ n = length-take-le n c.args.variables.now c.requires in
+    let whole : c.loop-v.v ≡ n = omega (arith, size, c.loop-v-test.false, c.loop-v.auto.v-end) in
+    take-append-le n c.loop-v.named (drop n c.args.variables.now) (omega (arith, size, c.loop-v.auto.named))
+    ∙ subst (λ (k : ℕ). take k c.loop-v.named ≡ upto k) whole c.loop-v.invariant

@@ -1,18 +1,12 @@
--- `tables::inputs::are_bits` meets its contract: the loop has passed bits only, so what is left decides.
-use mathlib.Core.Path.{refl, sym, ◌∙◌}
-use Prim.Native.Nat.{◌-◌}
-use native.Mathlib.Omega.{arith}
-use Rattle.tables.specs.Inputs.{bits_on, bits_stop, bits_end}
+-- `tables::inputs::are_bits` meets its contract: the definition is the test of every byte.
+use Rattle.std.proofs.Common.{◌∙◌, rules, tests, nat_lt}
+use Rattle.std.proofs.lemmas.Iterator.{YieldsList-from_slice}
+use Rattle.std.proofs.lemmas.Iterator.Search.{all_from_yields_List}
+use Rattle.tables.specs.Inputs.{all_bits}
 use Rattle.tables.proofs.inputs.are_bits.Goals as goal
 
-pub loop-i-init : goal.loop-i-init
-loop-i-init c = (omega arith, refl, refl)
-
-pub returns-then-inputs-i-gt1 : goal.returns-then-inputs-i-gt1
-returns-then-inputs-i-gt1 c = sym (sym c.loop-i.invariant.2 ∙ bits_stop c.args.inputs.now c.loop-i.i (omega arith) (omega arith))
-
-pub loop-i-preserved : goal.loop-i-preserved
-loop-i-preserved c = (omega arith, c.loop-i.invariant.1, bits_on c.args.inputs.now c.loop-i.i (omega arith) (omega arith) ∙ c.loop-i.invariant.2)
-
 pub returns : goal.returns
-returns c = sym (sym c.loop-i.invariant.2 ∙ bits_end c.args.inputs.now c.loop-i.i (omega arith))
+returns c =
+    all_from_yields_List (λ b. nat_lt b 2) _ _ _ c.all.ensures.ran (YieldsList-from_slice c.args.inputs.now cc)
+    (λ x b f called. search (rules, tests))
+    ∙ all_bits c.args.inputs.now

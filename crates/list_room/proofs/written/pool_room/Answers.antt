@@ -1,7 +1,0 @@
--- `pool_room` meets its contract.
-use Rattle.list_room.specs.Room.{zeros_are}
-use Rattle.list_room.specs.Written.{pool_room}
-use Rattle.list_room.proofs.written.pool_room.Goals as goal
-
-pub returns : goal.returns
-returns c = zeros_are pool_room

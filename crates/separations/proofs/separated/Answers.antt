@@ -1,5 +1,0 @@
--- `separated` meets its contract: both answers are blank.
-use Rattle.separations.proofs.separated.Goals as goal
-
-pub returns : goal.returns
-returns c = cc (c.blank.ensures, c.blank-2.ensures)

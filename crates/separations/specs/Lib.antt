@@ -1,2 +1,0 @@
--- two answers are the same exactly if their words are
-pub mod Same
