@@ -21,7 +21,8 @@ use listed::listed_at;
 use node::write_node;
 use part::write_part;
 
-// Inner: how many entries the pool of the list has.
+// Inner: how many entries the pool of the list has. Here and below the entries are read by their places: they are packed
+// two to a row of the work space, so there is no slice to go over.
 pub fn pool_length(work: &[u64], count: usize) -> usize
     requires rows { Rows work.now count }
     requires count_bound { count ≤ 2 * most_nodes }

@@ -6,7 +6,8 @@ use meaning::{Refusal, numbers};
 use std::io;
 use std::io::Write;
 
-// "refused with 4 at node 3: .."; number 0 is no refusal, and its line is "done".
+// "refused with 4 at node 3: .."; number 0 is no refusal, and its line is "done". Any number is
+// taken, one that no call answers too.
 pub fn write_refusal<W: Write>(out: &mut W, refusal: Refusal) -> io::Result<()> {
     if refusal.number == numbers::DONE {
         return out.write_all(b"done\n");

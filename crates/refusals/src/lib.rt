@@ -1,6 +1,6 @@
 // A test of a call that names no node (document 01, "Numbers a call answers with"). The plain meaning is meaning's
 // Rules/Refusals, `require`. A call that asks test after test ends at the first that refuses, by `?`, in the document's
-// order: that is `then` of the same rules (`answered_then` of meaning's proofs/Laws/RefusalLaws).
+// order: that is `then` of the same rules (`then_go` and `then_stop` of meaning's proofs/Laws/NumberLaws).
 #![tactic(auto)]
 
 ghost use Rattle.std.specs.Prelude.{◌≡◌};

@@ -49,7 +49,7 @@ pub(crate) fn expected_of(row: &[u64; ROW_WORDS]) -> Expected {
     }
 }
 
-// "it changes nothing lent but work space": a refusal writes no list.
+// "it changes nothing lent but work space": a refusal writes no list. The number is a word of the recorded case.
 fn listed_of(number: u64, words: usize, entries: usize) -> Listed {
     if number != DONE as u64 {
         return Listed {

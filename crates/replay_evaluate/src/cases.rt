@@ -61,7 +61,7 @@ pub(crate) fn expected_of(row: &[u64; ROW_WORDS]) -> Expected {
     }
 }
 
-// "it changes nothing lent but work space": a refusal writes no pair.
+// "it changes nothing lent but work space": a refusal writes no pair. The number is a word of the recorded case.
 fn pair_words(words: usize, number: u64) -> usize {
     if number != DONE as u64 {
         return 0;

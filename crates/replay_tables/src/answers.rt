@@ -18,6 +18,7 @@ fn expected(row: &[u64; ROW_WORDS]) -> Words {
     }
 }
 
+// The routine is told by its number, a word of the recorded case.
 fn answer(row: &[u64; ROW_WORDS], inputs: &[u8]) -> Words {
     let p = row[1];
     let size = row[2];

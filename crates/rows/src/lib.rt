@@ -13,7 +13,7 @@ use columns::{SHAPE, STATE, VALUE, get};
 use meaning::{Answer, Failure};
 use shapes::width::width_of;
 
-// The failure of that number.
+// The failure of that number: the state is a word of the work space, which is fixed memory.
 fn failure_of(state: u64) -> Failure
     ensures { result ≡ failure_numbered state }
 {
