@@ -29,7 +29,7 @@ fn write_line<W: Write>(out: &mut W, nodes: &[u32], pool: &[u32], i: usize) -> i
         Kind::Program => write!(out, "{datum}")?,
         Kind::DC => out.write_all(b"x")?,
         Kind::Var => write!(out, "v{datum}")?,
-        _ => write_parent(out, nodes, pool, i)?,
+        _ => return write_parent(out, nodes, pool, i),
     }
     out.write_all(b"\n")
 }
@@ -46,6 +46,7 @@ fn write_constant<W: Write>(out: &mut W, bit: u64) -> io::Result<()> {
     }
 }
 
+// A node with children, to the end of its line.
 fn write_parent<W: Write>(out: &mut W, nodes: &[u32], pool: &[u32], i: usize) -> io::Result<()>
     requires { i < node_count nodes.now }
 {
@@ -55,7 +56,7 @@ fn write_parent<W: Write>(out: &mut W, nodes: &[u32], pool: &[u32], i: usize) ->
         out.write_all(b" ")?;
         write_name(out, *child as u64)?;
     }
-    out.write_all(b")")
+    out.write_all(b")\n")
 }
 
 // The operators' words: one arm for each of the kinds 4 to 16. No list of a call's has another.

@@ -1,18 +1,25 @@
 -- The last sentence of demand 3, of answers that meet the contracts of the calls: "If no don't-care, register or ARG node
 -- is the root or lies below it and the canonicaliser accepts the list, its canonical list, lent work space enough for
 -- its own size, gets the same judgement and assignment."
-use Rattle.std.specs.Prelude.{ℕ, ◌≤◌, ◌<◌, ◌≡◌, refl, List, ◌++◌, true, length, take, drop}
+use Rattle.std.specs.Prelude.{ℕ, ◌≤◌, ◌<◌, ◌≡◌, refl, List, ◌++◌, true, length, take, drop, Result, Ok}
 use Rattle.std.proofs.Common.{sym, ap, ap₂, ◌∙◌, take_at}
 use borrow.Author.Tests.{eq-eqb}
-use Rattle.meaning.specs.Rules.Separation.{Separation}
-use Rattle.meaning.specs.Rules.Calls.{Canonical}
+use Rattle.meaning.specs.declared.Refusal.{Refusal}
+use Rattle.meaning.specs.declared.Separation as of_separation
+use Rattle.meaning.specs.declared.Canonical as of_canonical
+use Rattle.meaning.specs.Rules.Refusals.{done}
+use Rattle.meaning.specs.Rules.Separation.{Separation, separation_result}
+use Rattle.meaning.specs.Rules.Calls.{Canonical, canonical_result, canonical_said}
 use Rattle.meaning.specs.Rules.Kinds.{kind_of, is_plain}
 use Rattle.meaning.specs.Rules.Trees.{node_count, kind_at}
 use Rattle.meaning.specs.Rules.Layout.{work_for}
 use Rattle.meaning.specs.Rules.Reach.{reachable}
 use Rattle.meaning.specs.Rules.Canonical.{canonical_nodes, canonical_pool}
 use Rattle.meaning.specs.Rules.Calls.{Judged, judged, separate, Canonicalised, canonicalised, canonical_refusal, canonical, canonicalise}
-use Rattle.meaning.proofs.Claims.Demands.{demand_3_canonical}
+use Rattle.meaning.proofs.Claims.Demands.{demand_3_canonical, found_3_canonical}
+use Rattle.meaning.proofs.Laws.ResultLaws.{canonical_back}
+
+-- ---- of the rules' answers, with the refusals in them
 
 -- the canonicaliser's answer c, which is no refusal, and what it left of the work space and in its outputs
 module _ (ns ps work out_nodes out_pool : List ℕ) (c : Canonical) (left nodes pool : List ℕ)
@@ -73,3 +80,52 @@ module _ (ns ps work out_nodes out_pool : List ℕ) (c : Canonical) (left nodes 
   same_judgement plain n run space space' s of_given done own own' t of_list room =
       let same = same_separation plain n run space space' s of_given done own own' t of_list room in
       (ap (λ (x : Separation). x.judgement) same, ap (λ (x : Separation). x.index) same)
+
+-- ---- of what the calls hand back
+
+-- the canonicaliser's answer r, an Ok, and what it left in its outputs, by the clauses of its contract
+module _ (ns ps work out_nodes out_pool : List ℕ) (r : Result of_canonical.Canonical Refusal) (nodes pool : List ℕ)
+    (value : r ≡ canonical_result (canonicalise ns ps work out_nodes out_pool).answer)
+    (nodes_after : nodes ≡ (canonicalise ns ps work out_nodes out_pool).out_nodes)
+    (pool_after : pool ≡ (canonicalise ns ps work out_nodes out_pool).out_pool)
+    (found : of_canonical.Canonical) (ok : r ≡ Ok found) where
+  handed : Ok found ≡ canonical_result (canonicalise ns ps work out_nodes out_pool).answer
+  handed = sym ok ∙ value
+
+  abbrev left : List ℕ
+  left = (canonicalise ns ps work out_nodes out_pool).work
+
+  -- its fields, as they are called, are the rules'
+  whole_canonical : canonicalised (record { refusal = done; nodes = found.nodes; pool = found.pool }) left nodes pool
+      ≡ canonicalise ns ps work out_nodes out_pool
+  whole_canonical = rw (nodes_after, pool_after)
+      (ap (λ (c : Canonical). canonicalised c left (canonicalise ns ps work out_nodes out_pool).out_nodes (canonicalise ns ps work out_nodes out_pool).out_pool)
+      (ap canonical_said handed ∙ canonical_back ns ps work out_nodes out_pool))
+
+  pub found_nodes : take found.nodes nodes ≡ canonical_nodes ns ps
+  found_nodes = list_nodes ns ps work out_nodes out_pool _ left nodes pool whole_canonical refl
+
+  pub found_pool : take found.pool pool ≡ canonical_pool ns ps
+  found_pool = list_pool ns ps work out_nodes out_pool _ left nodes pool whole_canonical refl
+
+  -- `separate` of the given list answered an Ok: of the canonical one it answers the same
+  pub found_separation : ((i : ℕ) → i < node_count ns → reachable ns ps i ≡ true → is_plain (kind_of (kind_at ns i)) ≡ true)
+      → (n run : ℕ) (space : List ℕ) (s : of_separation.Separation) → Ok s ≡ separation_result (separate ns ps n run space).answer
+      → (own : List ℕ) (t : Result of_separation.Separation Refusal)
+      → t ≡ separation_result (separate (take found.nodes nodes) (take found.pool pool) n run own).answer
+      → work_for (take found.nodes nodes) (take found.pool pool) ≤ length own
+      → t ≡ Ok s
+  found_separation plain n run space s of_given own t of_list room =
+      rw (found_nodes, found_pool) at of_list
+      ∙ found_3_canonical ns ps n run space work out_nodes out_pool own s found of_given handed plain (rw (found_nodes, found_pool) at room)
+
+  -- so its judgement and its assignment are the same
+  pub found_judgement : ((i : ℕ) → i < node_count ns → reachable ns ps i ≡ true → is_plain (kind_of (kind_at ns i)) ≡ true)
+      → (n run : ℕ) (space : List ℕ) (s : of_separation.Separation) → Ok s ≡ separation_result (separate ns ps n run space).answer
+      → (own : List ℕ) (t : of_separation.Separation)
+      → Ok t ≡ separation_result (separate (take found.nodes nodes) (take found.pool pool) n run own).answer
+      → work_for (take found.nodes nodes) (take found.pool pool) ≤ length own
+      → (t.judgement ≡ s.judgement) × (t.index ≡ s.index)
+  found_judgement plain n run space s of_given own t of_list room =
+      let same : t ≡ s = cc (found_separation plain n run space s of_given own (Ok t) of_list room) in
+      (ap (λ (x : of_separation.Separation). x.judgement) same, ap (λ (x : of_separation.Separation). x.index) same)

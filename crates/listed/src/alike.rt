@@ -1,8 +1,8 @@
 // Two normal forms by their rows: the words, and the numbers of their children, which are listed before.
-ghost use Rattle.std.specs.Prelude.{◌≡◌, ◌≤◌};
+ghost use Rattle.std.specs.Prelude.{◌≡◌, ◌<◌, ◌≤◌, eqb};
 ghost use Rattle.meaning.specs.Rules.Trees.{node_count};
-ghost use Rattle.columns.specs.Columns.{cell, count_column};
-ghost use Rattle.form_rows.specs.Forms.{Home, Formed};
+ghost use Rattle.columns.specs.Columns.{cell, count_column, number_column};
+ghost use Rattle.form_rows.specs.Forms.{Home, Formed, kid_at};
 ghost use Rattle.listed.specs.Likeness.{same_row, same_kids};
 
 use columns::{NUMBER, get};
@@ -31,8 +31,21 @@ fn same_kids(nodes: &[u32], pool: &[u32], work: &[u64], h: usize, g: usize, coun
     requires count_bound_2 { count ≤ cell work.now count_column g }
     ensures { result ≡ same_kids nodes.now pool.now work.now h g count }
 {
-    (0..count).all(|j| {
-        let number = get(work, NUMBER, kid(nodes, pool, work, h, j));
-        number == get(work, NUMBER, kid(nodes, pool, work, g, j))
-    })
+    // Forms that are alike in their words mostly differ in their first child, so that one is asked before the walk.
+    count == 0
+        || same_kid(nodes, pool, work, h, g, 0)
+            && (1..count).all(|j| same_kid(nodes, pool, work, h, g, j))
+}
+
+// Has child j the same number in both?
+fn same_kid(nodes: &[u32], pool: &[u32], work: &[u64], h: usize, g: usize, j: usize) -> bool
+    requires formed { Formed nodes.now pool.now work.now (node_count nodes.now) }
+    requires home { Home nodes.now pool.now work.now h }
+    requires home_2 { Home nodes.now pool.now work.now g }
+    requires j_bound { j < cell work.now count_column h }
+    requires j_bound_2 { j < cell work.now count_column g }
+    ensures { result ≡ eqb (cell work.now number_column (kid_at nodes.now pool.now work.now h j)) (cell work.now number_column (kid_at nodes.now pool.now work.now g j)) }
+{
+    let number = get(work, NUMBER, kid(nodes, pool, work, h, j));
+    number == get(work, NUMBER, kid(nodes, pool, work, g, j))
 }

@@ -16,7 +16,7 @@ pub fn write_refusal<W: Write>(out: &mut W, refusal: Refusal) -> io::Result<()> 
     write!(out, "refused with {number}")?;
     write_node(out, refusal)?;
     if let Some(meaning) = meaning_of(number) {
-        write!(out, ": {meaning}")?;
+        out.write_all(meaning.as_bytes())?;
     }
     out.write_all(b"\n")
 }
@@ -43,27 +43,28 @@ fn names_node(number: u32) -> bool {
 }
 
 // What is wrong with a list, numbers 1 to 8, or with what else a call was given, 9 to 14 and 19. 15 to 18 are kept free, and
-// a number that is not in the table has no meaning to write.
+// a number that is not in the table has no meaning to write. The colon stands with it, so that both go out in one write.
 fn meaning_of(number: u32) -> Option<&'static str> {
     let meaning = match number {
-        numbers::NOT_ALIGNED => "the node words do not make whole nodes",
-        numbers::OVER_LIMIT => "the list has more nodes or pool entries than are allowed",
-        numbers::UNKNOWN_KIND => "there is no such kind",
+        numbers::NOT_ALIGNED => ": the node words do not make whole nodes",
+        numbers::OVER_LIMIT => ": the list has more nodes or pool entries than are allowed",
+        numbers::UNKNOWN_KIND => ": there is no such kind",
         numbers::BAD_LAYOUT =>
-            "a field or child count breaks the layout, or its children run past the pool",
-        numbers::BAD_CHILD => "a child is not numbered below its node",
-        numbers::NOT_VERIFIED => "this node breaks a rule of verification",
-        numbers::NO_ROOT => "the list is empty, and a root is needed",
-        numbers::NOT_EVALUABLE => "the list verifies, but this node can not be evaluated",
-        numbers::MANY_INPUTS => "the trees differ, and the first has too many variables to try",
-        numbers::LITTLE_WORK => "too little work space was lent",
+            ": a field or child count breaks the layout, or its children run past the pool",
+        numbers::BAD_CHILD => ": a child is not numbered below its node",
+        numbers::NOT_VERIFIED => ": this node breaks a rule of verification",
+        numbers::NO_ROOT => ": the list is empty, and a root is needed",
+        numbers::NOT_EVALUABLE => ": the list verifies, but this node can not be evaluated",
+        numbers::MANY_INPUTS => ": the trees differ, and the first has too many variables to try",
+        numbers::LITTLE_WORK => ": too little work space was lent",
         numbers::OUT_OF_BOUNDS =>
-            "too many variables are asked for, or a variable or a mark is past them",
+            ": too many variables are asked for, or a variable or a mark is past them",
         numbers::BAD_ASSIGNMENT =>
-            "an assignment is too long or has a byte above 2, or a series is not whole rows",
-        numbers::BAD_TABLE => "a truth-table argument is out of its range",
-        numbers::WIDE_GATE => "this gate is not a bit, and can not become a lookup table",
-        numbers::SHORT_OUTPUT => "the answer does not fit the output, or is a list over the limits",
+            ": an assignment is too long or has a byte above 2, or a series is not whole rows",
+        numbers::BAD_TABLE => ": a truth-table argument is out of its range",
+        numbers::WIDE_GATE => ": this gate is not a bit, and can not become a lookup table",
+        numbers::SHORT_OUTPUT =>
+            ": the answer does not fit the output, or is a list over the limits",
         _ => return None,
     };
     Some(meaning)

@@ -1,11 +1,11 @@
 -- What a caller of `sound` may rely on: column by column where it answers 0, and whatever it answers, that the rows of a
 -- list before it stay as they were. No second outcome meets its promise.
-use Rattle.std.specs.Prelude.{ℕ, ◌+◌, ◌*◌, ◌≤◌, ◌<◌, ◌≡◌, refl, ◌≢◌, List, Bool, true, false, cond, length, get_or}
+use Rattle.std.specs.Prelude.{ℕ, ◌+◌, ◌*◌, ◌≤◌, ◌<◌, ◌≡◌, refl, ◌≢◌, List, Bool, true, false, cond, length, get_or, Result, ⊤}
 use Rattle.std.proofs.Common.{sym, subst, ◌∙◌, arith}
 use Rattle.meaning.specs.declared.Refusal.{Refusal}
 use Rattle.meaning.specs.Rules.Limits.{work_per_node}
 use Rattle.meaning.specs.Rules.Trees.{node_count}
-use Rattle.meaning.specs.Rules.Refusals.{is_done, ◌then◌}
+use Rattle.meaning.specs.Rules.Refusals.{is_done, answered, ◌then◌}
 use Rattle.meaning.specs.Rules.Layout.{layout}
 use Rattle.meaning.specs.Rules.Reach.{mark_of}
 use Rattle.meaning.specs.Rules.Verification.{verification}
@@ -62,3 +62,8 @@ module _ (ns ps : List ℕ) (base : ℕ) (work : List ℕ) where
   pub sound_only : {r r' : Refusal} {after after' : List ℕ} → (r ≡ sound ns ps) × (after ≡ sound_work ns ps base work)
       → (r' ≡ sound ns ps) × (after' ≡ sound_work ns ps base work) → (r ≡ r') × (after ≡ after')
   sound_only p q = (p.0 ∙ sym q.0, p.1 ∙ sym q.1)
+
+  -- and of what code hands back
+  pub sound_result_only : {r r' : Result ⊤ Refusal} {after after' : List ℕ} → (r ≡ answered (sound ns ps)) × (after ≡ sound_work ns ps base work)
+      → (r' ≡ answered (sound ns ps)) × (after' ≡ sound_work ns ps base work) → (r ≡ r') × (after ≡ after')
+  sound_result_only p q = (p.0 ∙ sym q.0, p.1 ∙ sym q.1)

@@ -1,13 +1,18 @@
 -- "Prove that no second outcome satisfies that statement": for each public routine, two outcomes that both meet its
 -- contract are the same (document 01, "What the contracts owe").
-use Rattle.std.specs.Prelude.{ℕ, ◌≡◌, List, Bool, Option, Result}
+use Rattle.std.specs.Prelude.{ℕ, ◌≡◌, List, Bool, Option, Result, ⊤}
 use Rattle.std.proofs.Common.{sym, ap, ◌∙◌}
 use Rattle.meaning.specs.declared.Check.{Check}
+use Rattle.meaning.specs.declared.Answer.{Answer}
 use Rattle.meaning.specs.declared.Refusal.{Refusal}
-use Rattle.meaning.specs.Rules.Calls.{Evaluation}
-use Rattle.meaning.specs.Rules.Comparison.{Comparison}
-use Rattle.meaning.specs.Rules.Separation.{Separation}
-use Rattle.meaning.specs.Rules.Calls.{Canonical}
+use Rattle.meaning.specs.declared.Comparison as comparison
+use Rattle.meaning.specs.declared.Separation as separation
+use Rattle.meaning.specs.declared.Canonical as canonical
+use Rattle.meaning.specs.Rules.Refusals.{answered}
+use Rattle.meaning.specs.Rules.Calls.{Evaluation, evaluation_result}
+use Rattle.meaning.specs.Rules.Comparison.{Comparison, comparison_result}
+use Rattle.meaning.specs.Rules.Separation.{Separation, separation_result}
+use Rattle.meaning.specs.Rules.Calls.{Canonical, canonical_result}
 use Rattle.meaning.specs.declared.OutOfRange.{OutOfRange}
 use Rattle.meaning.specs.declared.BitVector.{BitVector}
 use Rattle.meaning.specs.declared.Cofactors.{Cofactors}
@@ -17,7 +22,7 @@ use Rattle.meaning.specs.Rules.Tables.{lut_bit_says, bit_vector_says, removed_sa
 use Rattle.meaning.specs.Rules.Verdict.{Displayed, displayed, display}
 use Rattle.meaning.specs.Rules.Calls.{Verified, verified, verify, Evaluated, evaluated, evaluate, Compared, compared, compare, Judged, judged, Canonicalised, canonicalised, canonicalise, separate}
 
--- ---- the calls over node lists
+-- ---- the calls over node lists: the rules' whole outcome
 pub verify_only : (ns ps work : List ℕ) {r r' : Refusal} {w w' : List ℕ}
     → verified r w ≡ verify ns ps work → verified r' w' ≡ verify ns ps work → (r ≡ r') × (w ≡ w')
 verify_only ns ps work p q =
@@ -50,6 +55,37 @@ canonicalise_only ns ps work out_nodes out_pool p q =
       ap (λ (o : Canonicalised). o.out_nodes) e,
       ap (λ (o : Canonicalised). o.out_pool) e,
     )
+
+-- and what code hands back of it, by the contracts: a Result, and each lent space
+pub verify_result_only : (ns ps work : List ℕ) {r r' : Result ⊤ Refusal} {w w' : List ℕ}
+    → r ≡ answered (verify ns ps work).answer → w ≡ (verify ns ps work).work
+    → r' ≡ answered (verify ns ps work).answer → w' ≡ (verify ns ps work).work → (r ≡ r') × (w ≡ w')
+verify_result_only ns ps work p q p' q' = (p ∙ sym p', q ∙ sym q')
+
+pub evaluate_result_only : (ns ps bytes work out : List ℕ) {r r' : Result Answer Refusal} {w w' o o' : List ℕ}
+    → r ≡ evaluation_result (evaluate ns ps bytes work out).answer → w ≡ (evaluate ns ps bytes work out).work
+    → o ≡ (evaluate ns ps bytes work out).out
+    → r' ≡ evaluation_result (evaluate ns ps bytes work out).answer → w' ≡ (evaluate ns ps bytes work out).work
+    → o' ≡ (evaluate ns ps bytes work out).out → (r ≡ r') × (w ≡ w') × (o ≡ o')
+evaluate_result_only ns ps bytes work out p q s p' q' s' = (p ∙ sym p', q ∙ sym q', s ∙ sym s')
+
+pub compare_result_only : (ns ps ms qs work : List ℕ) {r r' : Result comparison.Comparison Refusal} {w w' : List ℕ}
+    → r ≡ comparison_result (compare ns ps ms qs work).answer → w ≡ (compare ns ps ms qs work).work
+    → r' ≡ comparison_result (compare ns ps ms qs work).answer → w' ≡ (compare ns ps ms qs work).work → (r ≡ r') × (w ≡ w')
+compare_result_only ns ps ms qs work p q p' q' = (p ∙ sym p', q ∙ sym q')
+
+pub separate_result_only : (ns ps : List ℕ) (n run : ℕ) (work : List ℕ) {r r' : Result separation.Separation Refusal} {w w' : List ℕ}
+    → r ≡ separation_result (separate ns ps n run work).answer → w ≡ (separate ns ps n run work).work
+    → r' ≡ separation_result (separate ns ps n run work).answer → w' ≡ (separate ns ps n run work).work → (r ≡ r') × (w ≡ w')
+separate_result_only ns ps n run work p q p' q' = (p ∙ sym p', q ∙ sym q')
+
+pub canonicalise_result_only : (ns ps work out_nodes out_pool : List ℕ) {r r' : Result canonical.Canonical Refusal} {w w' a a' b b' : List ℕ}
+    → r ≡ canonical_result (canonicalise ns ps work out_nodes out_pool).answer → w ≡ (canonicalise ns ps work out_nodes out_pool).work
+    → a ≡ (canonicalise ns ps work out_nodes out_pool).out_nodes → b ≡ (canonicalise ns ps work out_nodes out_pool).out_pool
+    → r' ≡ canonical_result (canonicalise ns ps work out_nodes out_pool).answer → w' ≡ (canonicalise ns ps work out_nodes out_pool).work
+    → a' ≡ (canonicalise ns ps work out_nodes out_pool).out_nodes → b' ≡ (canonicalise ns ps work out_nodes out_pool).out_pool
+    → (r ≡ r') × (w ≡ w') × (a ≡ a') × (b ≡ b')
+canonicalise_result_only ns ps work out_nodes out_pool p q s t p' q' s' t' = (p ∙ sym p', q ∙ sym q', s ∙ sym s', t ∙ sym t')
 
 -- ---- the truth-table routines
 pub eval_lut_only : (p : ℕ) (inputs : List ℕ) (r r' : Result Bool OutOfRange) → lut_bit_says r ≡ eval_lut p inputs → lut_bit_says r' ≡ eval_lut p inputs → r ≡ r'

@@ -5,8 +5,8 @@ use Rattle.std.proofs.lemmas.Bool.{eqb-false}
 use Rattle.meaning.specs.declared.Refusal.{Refusal}
 use Rattle.meaning.specs.declared.Answer.{Answer}
 use Rattle.meaning.specs.Rules.Trees.{Tree, same, node_count, root_of}
-use Rattle.meaning.specs.Rules.Answers.{answer}
-use Rattle.meaning.specs.Rules.Assignments.{inputs, upto, drive}
+use Rattle.meaning.specs.Rules.Answers.{answer, blank}
+use Rattle.meaning.specs.Rules.Assignments.{inputs, upto, drive, given}
 use Rattle.meaning.specs.Rules.Refusals.{done, is_done, answered, answered_with, refusal_said, ◌then◌}
 use Rattle.meaning.specs.Rules.Layout.{sizes, work_for, room, layout}
 use Rattle.meaning.specs.Rules.Verification.{verification}
@@ -14,7 +14,7 @@ use Rattle.meaning.specs.Rules.Evaluable.{sound}
 use Rattle.meaning.specs.Rules.Canonical.{gates, canonical_nodes, canonical_pool}
 use Rattle.meaning.specs.Rules.Comparison.{Comparison, assignments, deciding_index, equivalent, decided_at, compare_trees, comparison_refused, comparison_result, comparison_said}
 use Rattle.meaning.specs.Rules.Separation.{Separation, run_cleared, crossing_index, separated, crossing_at, separate_tree, separation_refused, separation_result, separation_said}
-use Rattle.meaning.specs.Rules.Calls.{verify_refusal, verify, evaluate_refusal, evaluation, evaluation_result, evaluate, compare_refusal, comparison, compare}
+use Rattle.meaning.specs.Rules.Calls.{verify_refusal, verify, evaluate_refusal, evaluation, evaluation_result, evaluation_said, evaluate, compare_refusal, comparison, compare}
 use Rattle.meaning.specs.Rules.Calls.{separate_refusal, separation, separate, fits_lists, canonical_refusal, canonical, canonical_result, canonical_said, canonicalise}
 use Rattle.meaning.proofs.Laws.RefusalLaws.{with_done, with_refused}
 use Rattle.meaning.proofs.Laws.NumberLaws.{ZeroDone, require_zero, lowest_zero, then_zero}
@@ -27,6 +27,11 @@ back_by r x z false e = refl
 
 pub said_back : {A : Type 0} (r : Refusal) (x : A) → ZeroDone r → refusal_said (answered_with r x) ≡ r
 said_back r x z = back_by r x z (is_done r) refl
+
+evaluation_by : (r : Refusal) (a : Answer) → ZeroDone r → (b : Bool) → is_done r ≡ b
+    → evaluation_said (cond b (Ok (cond b a blank)) (Err r)) ≡ record { refusal = r; answer = cond b a blank }
+evaluation_by r a z true e = ap (λ (x : Refusal). record { refusal = x; answer = a }) (sym (z.is (eqb-true r.number 0 e)))
+evaluation_by r a z false e = refl
 
 canonical_by : (r : Refusal) (n p : ℕ) → ZeroDone r → (b : Bool) → is_done r ≡ b
     → canonical_said (cond b (Ok (record { nodes = cond b n 0; pool = cond b p 0 })) (Err r)) ≡ record { refusal = r; nodes = cond b n 0; pool = cond b p 0 }
@@ -55,6 +60,14 @@ module _ (ns ps : List ℕ) where
   evaluate_back bytes work out =
       said_back (evaluate_refusal ns ps bytes (length work) (length out)) (evaluation (evaluate_refusal ns ps bytes (length work) (length out)) ns ps bytes).answer
       (evaluate_zero bytes (length work) (length out))
+
+  -- and the root's answer with it
+  pub evaluation_back : (bytes work out : List ℕ)
+      → evaluation_said (evaluation_result (evaluate ns ps bytes work out).answer) ≡ (evaluate ns ps bytes work out).answer
+  unfolding evaluate evaluation
+  evaluation_back bytes work out =
+      let r = evaluate_refusal ns ps bytes (length work) (length out) in
+      evaluation_by r (answer (given bytes) (root_of ns ps)) (evaluate_zero bytes (length work) (length out)) (is_done r) refl
 
   canonical_zero : (work out_nodes out_pool : ℕ) → ZeroDone (canonical_refusal ns ps work out_nodes out_pool)
   unfolding canonical_refusal gates

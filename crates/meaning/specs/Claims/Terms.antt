@@ -4,11 +4,13 @@ use Rattle.std.specs.Prelude.{ℕ, ◌^◌, ◌<◌, ◌≡◌, ◌↔◌, List,
 use Rattle.meaning.specs.declared.Answer.{Answer}
 use Rattle.meaning.specs.declared.Check.TheVariants.{NotEquiv, Inconclusive}
 use Rattle.meaning.specs.declared.Judgement.TheVariants.{Crossing}
+use Rattle.meaning.specs.declared.Comparison as of_comparison
+use Rattle.meaning.specs.declared.Separation as of_separation
 use Rattle.meaning.specs.Rules.Comparison.{Comparison}
 use Rattle.meaning.specs.Rules.Separation.{Separation}
 use Rattle.meaning.specs.declared.Refusal.{Refusal}
 use Rattle.meaning.specs.Rules.Search.{lowest}
-use Rattle.meaning.specs.Rules.Refusals.{refuse}
+use Rattle.meaning.specs.Rules.Refusals.{done, refuse}
 use Rattle.meaning.specs.Rules.Trees.{Tree}
 use Rattle.meaning.specs.Rules.Answers.{Assignment, answer}
 use Rattle.meaning.specs.Rules.Assignments.{inputs, drive, upto, is_in, Assigns}
@@ -41,6 +43,10 @@ module _ (t u : Tree) where
     pub answers : (c.first ≡ first c.index) × (c.second ≡ second c.index)
     pub verdict : c.verdict ≡ cond (is_value (first c.index) && is_value (second c.index)) NotEquiv Inconclusive
 
+-- what code found in a comparison, field by field as they are called: an answer that refuses nothing
+abbrev pub whole_comparison : of_comparison.Comparison → Comparison
+whole_comparison c = record { refusal = done; verdict = c.verdict; index = c.index; first = c.first; second = c.second }
+
 -- ==== Demand 3
 
 -- "two assignments that agree on all unmarked variables"
@@ -67,6 +73,10 @@ module _ (t : Tree) (n run : ℕ) where
     pub differs : as_run s.index ≡ as_cleared s.index → ⊥
     pub lowest : (j : ℕ) → j < s.index → as_run j ≡ as_cleared j
     pub answers : (s.run ≡ as_run s.index) × (s.cleared ≡ as_cleared s.index)
+
+-- what code found in a separation
+abbrev pub whole_separation : of_separation.Separation → Separation
+whole_separation s = record { refusal = done; judgement = s.judgement; index = s.index; run = s.run; cleared = s.cleared }
 
 -- ==== The table of numbers
 

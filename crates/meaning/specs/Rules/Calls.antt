@@ -75,9 +75,13 @@ evaluate ns ps bytes work out =
     let r = evaluate_refusal ns ps bytes (length work) (length out) in
     evaluated (evaluation r ns ps bytes) (work_after r work) (output_after (is_done r) (pairs ns ps bytes) out)
 
--- how code answers it: the root's answer, or the refusal
+-- how code answers it: the root's answer, or the refusal; and what such an answer is, whole
 abbrev pub evaluation_result : Evaluation → Result Answer Refusal
 evaluation_result e = answered_with e.refusal e.answer
+
+abbrev pub evaluation_said : Result Answer Refusal → Evaluation
+evaluation_said (Ok a) = record { refusal = done; answer = a }
+evaluation_said (Err r) = record { refusal = r; answer = blank }
 
 -- ==== compare (000, `func_equiv`)
 

@@ -1,9 +1,10 @@
 -- `replay` ends, as each turn gets on in the text; and where the cases from here on come to an answer, all of them do.
-use Rattle.std.proofs.Common.{◌+◌, ◌-◌, ◌≤◌, List, Result, length}
+use Rattle.std.proofs.Common.{◌≤◌, List, Result, length}
 use Rattle.replay_report.specs.Tallies.{OverText, Replayed, started}
 use Rattle.replay_report.specs.declared.turn.Tried.{Tried}
 use Rattle.replay_report.specs.declared.turn.Fault.{Fault}
 use Rattle.replay_report.specs.declared.tally.Tally.{Tally}
+use Rattle.replay_report.proofs.Counts.{ahead}
 use Rattle.replay_report.proofs.tally.replay.Given as goal
 
 abbrev pub invariant-loop-turn : goal.invariant-loop-turn
@@ -17,4 +18,4 @@ invariant-loop-turn g l =
     }
 
 abbrev pub decreases-loop-turn : goal.decreases-loop-turn
-decreases-loop-turn g l = length l.text + 1 - l.at
+decreases-loop-turn g l = ahead (length l.text) l.at

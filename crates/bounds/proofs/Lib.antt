@@ -1,0 +1,2 @@
+-- a variable outside is found, or none at all
+pub mod Outside

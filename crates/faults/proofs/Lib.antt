@@ -1,0 +1,2 @@
+-- the rules of a Lut's and an Arg's children, case by case
+pub mod Leaves

@@ -1,0 +1,2 @@
+-- an operand is taken from a list, one place after another
+pub mod Moved

@@ -1,0 +1,2 @@
+-- how many variables are found so far
+pub mod Counted

@@ -1,0 +1,2 @@
+-- the words of a node, stored one by one
+pub mod NodeWords

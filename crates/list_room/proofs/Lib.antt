@@ -1,0 +1,2 @@
+-- so many zeros, written out and not
+pub mod Zeros

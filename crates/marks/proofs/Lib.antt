@@ -1,0 +1,2 @@
+-- the nearer of two marks, by tests
+pub mod NearerLaws

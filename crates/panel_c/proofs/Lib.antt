@@ -1,0 +1,2 @@
+-- three words that say an answer are its block
+pub mod Said

@@ -1,0 +1,2 @@
+-- reading the expected list gets on from an earlier offset too
+pub mod Earlier

@@ -1,0 +1,2 @@
+-- whether two rows of words are the same, word by word
+pub mod Words

@@ -1,0 +1,2 @@
+-- input bytes one by one: of the range test, of the order of reading and of the row
+pub mod Bytes
