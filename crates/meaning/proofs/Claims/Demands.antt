@@ -1,5 +1,5 @@
 -- The customer's demands, as theorems about the outcomes of Rules/Calls, in the customer's words (Claims/Terms has them).
-use Rattle.std.specs.Prelude.{ℕ, ◌≤◌, ◌<◌, ◌≡◌, ◌↔◌, ◌⊎◌, ◌≢◌, List, true, length, replicate, Ok}
+use Rattle.std.specs.Prelude.{ℕ, ◌≤◌, ◌<◌, ◌≡◌, ◌↔◌, ◌⊎◌, ◌≢◌, List, true, length, replicate, Ok, Err}
 use Rattle.std.proofs.Common.{sym, ap, subst, ◌∙◌}
 use Rattle.meaning.specs.declared.Check.TheVariants.{Equiv}
 use Rattle.meaning.specs.declared.Judgement.TheVariants.{Separate}
@@ -18,13 +18,13 @@ use Rattle.meaning.specs.Rules.Reach.{reachable}
 use Rattle.meaning.specs.Rules.Assignments.{inputs}
 use Rattle.meaning.specs.Rules.Pairs.{pairs}
 use Rattle.meaning.specs.Rules.Canonical.{canonical_nodes, canonical_pool}
-use Rattle.meaning.specs.Rules.Calls.{evaluate_refusal, evaluation, evaluate, compare, canonical_refusal, Canonical, canonical, canonical_result, canonical_said, canonicalise, separate}
+use Rattle.meaning.specs.Rules.Calls.{evaluate_refusal, evaluation, evaluation_result, evaluate, compare, canonical_refusal, Canonical, canonical, canonical_result, canonical_said, canonicalise, separate}
 use Rattle.meaning.specs.Claims.Terms.{EverywhereEqual, Decided, whole_comparison, NoCrossing, Crosses, whole_separation}
 use Rattle.meaning.proofs.Laws.RefusalLaws.{refused_output, work_kept, work_cleared}
 use Rattle.meaning.proofs.Laws.ComparisonLaws.{equiv_exactly, otherwise_lowest, compared_trees, few_inputs}
 use Rattle.meaning.proofs.Laws.SeparationLaws.{separate_exactly, otherwise_crossing, judged_tree, judged_marks}
 use Rattle.meaning.proofs.Laws.KeptLaws.{kept_judgement}
-use Rattle.meaning.proofs.Laws.ResultLaws.{compare_back, separate_back, canonical_back}
+use Rattle.meaning.proofs.Laws.ResultLaws.{compare_back, separate_back, canonical_back, handed_refuses}
 
 -- ==== Demand 1: "Every entry point takes any words at all, ends, and answers": each outcome of Rules/Calls is a function of
 -- the words that came in, so it is there for any words, and Claims/Only says that no second one meets the contract. "Bad
@@ -42,6 +42,19 @@ unfolding canonicalise canonical
 demand_1_canonicalise ns ps work out_nodes out_pool h =
     let r = canonical_refusal ns ps (length work) (length out_nodes) (length out_pool) in
     (refused_output r (canonical_nodes ns ps) out_nodes h, refused_output r (canonical_pool ns ps) out_pool h)
+
+-- the same where code hands back an Err
+pub found_1_evaluate : (ns ps bytes work out : List ℕ) (r : Refusal)
+    → Err r ≡ evaluation_result (evaluate ns ps bytes work out).answer → (evaluate ns ps bytes work out).out ≡ out
+found_1_evaluate ns ps bytes work out r h =
+    let e = (evaluate ns ps bytes work out).answer in
+    demand_1_evaluate ns ps bytes work out (handed_refuses e.refusal e.answer r h)
+
+pub found_1_canonicalise : (ns ps work out_nodes out_pool : List ℕ) (r : Refusal)
+    → Err r ≡ canonical_result (canonicalise ns ps work out_nodes out_pool).answer
+    → ((canonicalise ns ps work out_nodes out_pool).out_nodes ≡ out_nodes) × ((canonicalise ns ps work out_nodes out_pool).out_pool ≡ out_pool)
+found_1_canonicalise ns ps work out_nodes out_pool r h =
+    demand_1_canonicalise ns ps work out_nodes out_pool (handed_refuses (canonicalise ns ps work out_nodes out_pool).answer.refusal _ r h)
 
 -- (writing a verdict's name: Claims/Tables, `display_kept`)
 

@@ -2,29 +2,35 @@
 -- table's column (Claims/Column) and of the order below it, with the node that it names.
 -- `Exactly r n P`: r is number n at node i exactly when P i. `NoNode P i`: P, and i is 0. `Passed r P`: r is 0 exactly when
 -- P. `Says r a`: r is 0 or a number of a, and no other.
-use Rattle.std.specs.Prelude.{ℕ, suc, ◌+◌, ◌%◌, ◌≤◌, ◌<◌, ◌≡◌, ◌⊎◌, List, [], ◌∷◌, ◌++◌, true, false, ◌||◌, length, ltb, leb}
+use Rattle.std.specs.Prelude.{ℕ, suc, ◌+◌, ◌%◌, ◌≤◌, ◌<◌, ◌≡◌, ◌⊎◌, List, [], ◌∷◌, ◌++◌, true, false, ◌||◌, length, ltb, leb, Ok, Err}
 use Rattle.std.proofs.Math.Path.{refl}
-use Rattle.std.proofs.Common.{arith, ne_eqb}
+use Rattle.std.proofs.Common.{arith, ne_eqb, sym, ap, ◌∙◌}
 use Rattle.meaning.specs.declared.Refusal.{Refusal}
+use Rattle.meaning.specs.declared.Answer.{Answer}
+use Rattle.meaning.specs.declared.Comparison as of_comparison
+use Rattle.meaning.specs.declared.Separation as of_separation
+use Rattle.meaning.specs.declared.Canonical as of_canonical
 use Rattle.meaning.specs.Rules.Limits.{words_per_node, most_inputs}
 use Rattle.meaning.specs.Rules.Numbers.{short_output}
 use Rattle.meaning.specs.Rules.Trees.{root_of, same}
-use Rattle.meaning.specs.Rules.Refusals.{◌then◌, require, every}
+use Rattle.meaning.specs.Rules.Refusals.{◌then◌, require, every, answered}
 use Rattle.meaning.specs.Rules.Layout.{sizes, work_for, room, layout}
 use Rattle.meaning.specs.Rules.Verification.{verification}
 use Rattle.meaning.specs.Rules.Evaluable.{sound}
 use Rattle.meaning.specs.Rules.Assignments.{inputs, is_in}
 use Rattle.meaning.specs.Rules.Pairs.{pair_words}
-use Rattle.meaning.specs.Rules.Separation.{bounded, separate_tree, separation_refused, in_bounds}
-use Rattle.meaning.specs.Rules.Comparison.{few_inputs, compare_trees, comparison_refused}
+use Rattle.meaning.specs.Rules.Separation.{Separation, bounded, separate_tree, separation_refused, in_bounds, separation_result}
+use Rattle.meaning.specs.Rules.Separation as rule
+use Rattle.meaning.specs.Rules.Comparison.{Comparison, few_inputs, compare_trees, comparison_refused, found, comparison_result}
 use Rattle.meaning.specs.Rules.Canonical.{gates}
-use Rattle.meaning.specs.Rules.Calls.{verify_refusal, verify, assigned, fits_pairs, evaluate_refusal, evaluation, evaluate, compare_refusal, comparison, compare, separate_refusal, separation, fits_lists, canonical_refusal, canonical, canonicalise, separate}
+use Rattle.meaning.specs.Rules.Calls.{Evaluation, Canonical, evaluation_result, canonical_result, verify_refusal, verify, assigned, fits_pairs, evaluate_refusal, evaluation, evaluate, compare_refusal, comparison, compare, separate_refusal, separation, fits_lists, canonical_refusal, canonical, canonicalise, separate}
 use Rattle.meaning.specs.Claims.Terms.{NoNode, Exactly, Passed, Says}
 use Rattle.meaning.specs.Claims.Column.{Misaligned, OverLimit, Sized, KindAbove, BreaksLayout, ChildNotBelow, WellLaid, Unverified, Verifies, Empty, Rooted, Misfit, Fits, WideGate, NoWideGate, All, Lowest, Sound, ManyInputs, OutOfBounds, InBounds, NoAssignment, IsAssignment, NoRoom, Room}
 use Rattle.meaning.proofs.Laws.NumberLaws.{then_says, require_says, late_apart, here, skip, either, both_passed, require_zero, then_zero, carries}
 use Rattle.meaning.proofs.Laws.ColumnLaws.{sizes_says, sizes_passed, sizes_1, sizes_2, layout_says, layout_passed, layout_3, layout_4, layout_5, verification_says, verification_passed, verification_6, gates_says, gates_passed, gates_14, room_says, room_passed, room_10, few_says, few_passed, few_9, bounded_says, bounded_passed, bounded_11, assigned_says, assigned_passed, assigned_12, pairs_says, pairs_passed, pairs_19, lists_passed, lists_19, sound_says, sound_passed, sound_3, sound_4, sound_5, sound_6, sound_7, sound_8, sizes_zero, sound_zero}
 use Rattle.meaning.proofs.Laws.ComparisonLaws.{compared_done}
 use Rattle.meaning.proofs.Laws.SeparationLaws.{judged_no_refusal}
+use Rattle.meaning.proofs.Laws.ResultLaws.{handed_err, handed_ok}
 
 -- ==== verify: 1, 2, 10, 3, 4, 5, 6; "never answers 7 or 8"
 module _ (ns ps : List ℕ) (work : ℕ) where
@@ -395,3 +401,62 @@ separate_carries ns ps n run work =
     (then_zero (sizes_zero ns ps) (then_zero (require_zero (leb (work_for ns ps) (length work)) 9)
     (then_zero (sound_zero ns ps) (require_zero (in_bounds ns n run) 10))))
     (judged_no_refusal (root_of ns ps) n run) refl
+
+-- ==== The same of what code hands back: an Err is that refusal, and behind an Ok there is none
+module _ (ns ps work : List ℕ) where
+  pub verify_err : (r : Refusal) → Err r ≡ answered (verify ns ps work).answer → r ≡ verify_refusal ns ps (length work)
+  verify_err r h = handed_err (verify ns ps work).answer tt r h ∙ verify_carries ns ps work
+
+  pub verify_ok : Ok tt ≡ answered (verify ns ps work).answer → (verify_refusal ns ps (length work)).number ≡ 0
+  verify_ok h =
+      ap (λ (q : Refusal). q.number) (sym (verify_carries ns ps work)) ∙ handed_ok (verify ns ps work).answer tt tt h
+
+module _ (ns ps bytes work out : List ℕ) where
+  abbrev evaluated_all : Evaluation
+  evaluated_all = (evaluate ns ps bytes work out).answer
+
+  pub evaluate_err : (r : Refusal) → Err r ≡ evaluation_result evaluated_all → r ≡ evaluate_refusal ns ps bytes (length work) (length out)
+  evaluate_err r h = handed_err evaluated_all.refusal evaluated_all.answer r h ∙ evaluate_carries ns ps bytes work out
+
+  pub evaluate_ok : (a : Answer) → Ok a ≡ evaluation_result evaluated_all → (evaluate_refusal ns ps bytes (length work) (length out)).number ≡ 0
+  evaluate_ok a h =
+      ap (λ (q : Refusal). q.number) (sym (evaluate_carries ns ps bytes work out))
+      ∙ handed_ok evaluated_all.refusal evaluated_all.answer a h
+
+module _ (ns ps ms qs work : List ℕ) where
+  abbrev compared_all : Comparison
+  compared_all = (compare ns ps ms qs work).answer
+
+  pub compare_err : (r : Refusal) → Err r ≡ comparison_result compared_all → r ≡ compare_refusal ns ps ms qs (length work)
+  compare_err r h = handed_err compared_all.refusal (found compared_all) r h ∙ compare_carries ns ps ms qs work
+
+  pub compare_ok : (c : of_comparison.Comparison) → Ok c ≡ comparison_result compared_all → (compare_refusal ns ps ms qs (length work)).number ≡ 0
+  compare_ok c h =
+      ap (λ (q : Refusal). q.number) (sym (compare_carries ns ps ms qs work))
+      ∙ handed_ok compared_all.refusal (found compared_all) c h
+
+module _ (ns ps : List ℕ) (n run : ℕ) (work : List ℕ) where
+  abbrev judged_all : Separation
+  judged_all = (separate ns ps n run work).answer
+
+  pub separate_err : (r : Refusal) → Err r ≡ separation_result judged_all → r ≡ separate_refusal ns ps n run (length work)
+  separate_err r h = handed_err judged_all.refusal (rule.found judged_all) r h ∙ separate_carries ns ps n run work
+
+  pub separate_ok : (s : of_separation.Separation) → Ok s ≡ separation_result judged_all → (separate_refusal ns ps n run (length work)).number ≡ 0
+  separate_ok s h =
+      ap (λ (q : Refusal). q.number) (sym (separate_carries ns ps n run work))
+      ∙ handed_ok judged_all.refusal (rule.found judged_all) s h
+
+module _ (ns ps work out_nodes out_pool : List ℕ) where
+  abbrev listed_all : Canonical
+  listed_all = (canonicalise ns ps work out_nodes out_pool).answer
+
+  pub canonicalise_err : (r : Refusal) → Err r ≡ canonical_result listed_all
+      → r ≡ canonical_refusal ns ps (length work) (length out_nodes) (length out_pool)
+  canonicalise_err r h = handed_err listed_all.refusal _ r h ∙ canonicalise_carries ns ps work out_nodes out_pool
+
+  pub canonicalise_ok : (c : of_canonical.Canonical) → Ok c ≡ canonical_result listed_all
+      → (canonical_refusal ns ps (length work) (length out_nodes) (length out_pool)).number ≡ 0
+  canonicalise_ok c h =
+      ap (λ (q : Refusal). q.number) (sym (canonicalise_carries ns ps work out_nodes out_pool))
+      ∙ handed_ok listed_all.refusal _ c h

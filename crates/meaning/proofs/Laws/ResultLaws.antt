@@ -28,6 +28,25 @@ back_by r x z false e = refl
 pub said_back : {A : Type 0} (r : Refusal) (x : A) → ZeroDone r → refusal_said (answered_with r x) ≡ r
 said_back r x z = back_by r x z (is_done r) refl
 
+-- ---- what is handed back: an Err is the refusal itself, and there is none behind an Ok
+module _ {A : Type 0} (q : Refusal) (x : A) where
+  err_by : (r : Refusal) (b : Bool) → is_done q ≡ b → Err r ≡ cond b (Ok x) (Err q) → (r ≡ q) × (q.number ≢ 0)
+  err_by r true e h = absurd cc
+  err_by r false e h = (cc, eqb-false q.number 0 e)
+
+  pub handed_err : (r : Refusal) → Err r ≡ answered_with q x → r ≡ q
+  handed_err r h = (err_by r (is_done q) refl h).0
+
+  pub handed_refuses : (r : Refusal) → Err r ≡ answered_with q x → q.number ≢ 0
+  handed_refuses r h = (err_by r (is_done q) refl h).1
+
+  ok_by : (y : A) (b : Bool) → is_done q ≡ b → Ok y ≡ cond b (Ok x) (Err q) → q.number ≡ 0
+  ok_by y true e h = eqb-true q.number 0 e
+  ok_by y false e h = absurd cc
+
+  pub handed_ok : (y : A) → Ok y ≡ answered_with q x → q.number ≡ 0
+  handed_ok y h = ok_by y (is_done q) refl h
+
 evaluation_by : (r : Refusal) (a : Answer) → ZeroDone r → (b : Bool) → is_done r ≡ b
     → evaluation_said (cond b (Ok (cond b a blank)) (Err r)) ≡ record { refusal = r; answer = cond b a blank }
 evaluation_by r a z true e = ap (λ (x : Refusal). record { refusal = x; answer = a }) (sym (z.is (eqb-true r.number 0 e)))
@@ -58,8 +77,7 @@ module _ (ns ps : List ℕ) where
       → refusal_said (evaluation_result (evaluate ns ps bytes work out).answer) ≡ (evaluate ns ps bytes work out).answer.refusal
   unfolding evaluate evaluation
   evaluate_back bytes work out =
-      said_back (evaluate_refusal ns ps bytes (length work) (length out)) (evaluation (evaluate_refusal ns ps bytes (length work) (length out)) ns ps bytes).answer
-      (evaluate_zero bytes (length work) (length out))
+      said_back (evaluate_refusal ns ps bytes (length work) (length out)) _ (evaluate_zero bytes (length work) (length out))
 
   -- and the root's answer with it
   pub evaluation_back : (bytes work out : List ℕ)
