@@ -33,9 +33,13 @@ entry_is_program work p e =
 abbrev pub is_program : List ℕ → ℕ → ℕ → Bool
 is_program work p k = entry_is_program work p (listed_at work k)
 
+-- child j has the same number in both
+abbrev pub kid_alike : List ℕ → List ℕ → List ℕ → ℕ → ℕ → ℕ → Bool
+kid_alike ns ps work h g j =
+    eqb (cell work number_column (kid_at ns ps work h j)) (cell work number_column (kid_at ns ps work g j))
+
 abbrev pub kid_differs : List ℕ → List ℕ → List ℕ → ℕ → ℕ → ℕ → Bool
-kid_differs ns ps work h g j =
-    not (eqb (cell work number_column (kid_at ns ps work h j)) (cell work number_column (kid_at ns ps work g j)))
+kid_differs ns ps work h g j = not (kid_alike ns ps work h g j)
 
 unfoldable pub same_kids : List ℕ → List ℕ → List ℕ → ℕ → ℕ → ℕ → Bool
 same_kids ns ps work h g n = eqb (lowest (kid_differs ns ps work h g) n) n

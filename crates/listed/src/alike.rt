@@ -1,9 +1,9 @@
 // Two normal forms by their rows: the words, and the numbers of their children, which are listed before.
-ghost use Rattle.std.specs.Prelude.{◌≡◌, ◌<◌, ◌≤◌, eqb};
+ghost use Rattle.std.specs.Prelude.{◌≡◌, ◌<◌, ◌≤◌};
 ghost use Rattle.meaning.specs.Rules.Trees.{node_count};
-ghost use Rattle.columns.specs.Columns.{cell, count_column, number_column};
-ghost use Rattle.form_rows.specs.Forms.{Home, Formed, kid_at};
-ghost use Rattle.listed.specs.Likeness.{same_row, same_kids};
+ghost use Rattle.columns.specs.Columns.{cell, count_column};
+ghost use Rattle.form_rows.specs.Forms.{Home, Formed};
+ghost use Rattle.listed.specs.Likeness.{same_row, same_kids, kid_alike};
 
 use columns::{NUMBER, get};
 use form_rows::{datum_in, kid, kid_count, kind_in};
@@ -44,7 +44,7 @@ fn same_kid(nodes: &[u32], pool: &[u32], work: &[u64], h: usize, g: usize, j: us
     requires home_2 { Home nodes.now pool.now work.now g }
     requires j_bound { j < cell work.now count_column h }
     requires j_bound_2 { j < cell work.now count_column g }
-    ensures { result ≡ eqb (cell work.now number_column (kid_at nodes.now pool.now work.now h j)) (cell work.now number_column (kid_at nodes.now pool.now work.now g j)) }
+    ensures { result ≡ kid_alike nodes.now pool.now work.now h g j }
 {
     let number = get(work, NUMBER, kid(nodes, pool, work, h, j));
     number == get(work, NUMBER, kid(nodes, pool, work, g, j))
